@@ -1,0 +1,44 @@
+-- What a call answers, as document 01 tells it: a delivery with its values, or a refusal with its number and its place.
+-- Assumes nothing.
+use Prim.Native.Nat.{ℕ}
+use mathlib.Core.List.{List, _++_}
+use lib.Dec.{ltb}
+use lib.ListN.{length, drop}
+use Rattle.indexed.specs.List.{firstWhere}
+use Rattle.answer.specs.declared.Reason.{Reason}
+use Rattle.answer.specs.declared.Reason.the-variants.{Length, Space, StrayBits, ManyPointed, NoGroup, Padding, NoRecord, SeveralRecords}
+use Rattle.answer.specs.declared.Refusal.{Refusal}
+
+-- the numbers of document 01's table, "Where a call is turned down"
+abbrev pub numberOf : Reason → ℕ
+numberOf Length = 1
+numberOf Space = 2
+numberOf StrayBits = 3
+numberOf ManyPointed = 4
+numberOf NoGroup = 5
+numberOf Padding = 6
+numberOf NoRecord = 7
+numberOf SeveralRecords = 8
+
+-- an answer: the values that a delivery tells, in the paper's order, or a refusal's number and place
+pub data Answer : Type 0 where
+  delivered : List ℕ → Answer
+  refused : ℕ → ℕ → Answer
+
+-- the refusal for a reason, at a place
+abbrev pub refusedFor : Reason → ℕ → Answer
+refusedFor reason place = refused (numberOf reason) place
+
+-- what a refusal tells
+abbrev pub toldRefusal : Refusal → Answer
+toldRefusal r = refusedFor (r .reason) (r .place)
+
+-- What the output holds after a call (the notice, first term): a delivery puts its result at the front and leaves what is
+-- behind it; a refusal leaves all of it.
+unfoldable pub outputAfter : Answer → List ℕ → List ℕ → List ℕ
+outputAfter (delivered values) result output = result ++ drop (length result) output
+outputAfter (refused number place) result output = output
+
+-- the index of the first value above the limit, or the number of values where none is
+unfoldable pub firstAbove : ℕ → List ℕ → ℕ
+firstAbove limit values = firstWhere (λ v. ltb limit v) values

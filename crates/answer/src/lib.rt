@@ -1,0 +1,62 @@
+// How a call answers: a delivery, or a refusal with its number and its place (document 01, "Where a
+// call is turned down"). "Delivered", "refused" and "place" are that paper's terms.
+ghost use mathlib.Core.Path.{_≡_};
+ghost use Rattle.answer.specs.Answer.{numberOf, firstAbove};
+
+// Why a call is refused, in the order of document 01's table.
+pub enum Reason {
+    // A length is outside the limits.
+    Length,
+    // The output has too little space.
+    Space,
+    // A word, character or map has a bit beyond its width.
+    StrayBits,
+    // Three or more tracks of a group are pointed.
+    ManyPointed,
+    // No group of the code fits.
+    NoGroup,
+    // The padding is not as a writer leaves it.
+    Padding,
+    // No written record fits.
+    NoRecord,
+    // More than one written record fits.
+    SeveralRecords,
+}
+
+impl Reason {
+    // The number that document 01's table gives this reason.
+    pub fn number(self) -> u16
+        ensures { λ r. ⌜ r ≡ numberOf self ⌝ }
+    {
+        match self {
+            Reason::Length => 1,
+            Reason::Space => 2,
+            Reason::StrayBits => 3,
+            Reason::ManyPointed => 4,
+            Reason::NoGroup => 5,
+            Reason::Padding => 6,
+            Reason::NoRecord => 7,
+            Reason::SeveralRecords => 8,
+        }
+    }
+}
+
+// A refusal: its reason and its place, which is a group, a character or a word, or 0.
+pub struct Refusal {
+    pub reason: Reason,
+    pub place: usize,
+}
+
+// The index of the first value above the limit, or the number of values where none is.
+pub fn first_above(values: &[u16], limit: u16) -> usize
+    ensures { λ r. ⌜ r ≡ firstAbove limit (now (values .entry)) ⌝ }
+{
+    let mut i = 0;
+    while i < values.len() {
+        if values[i] > limit {
+            return i;
+        }
+        i += 1;
+    }
+    i
+}

@@ -1,0 +1,27 @@
+-- `head_order::algebraic` meets its contract: the constant is the definition's order.
+-- Assumes nothing.
+use mathlib.Core.Path.{refl}
+use Rattle.head_order.specs.Order.{order}
+use borrow.Author.Needs.{needs}
+use Rattle.head_order.proofs.algebraic.Statement.{statement}
+use Rattle.head_order.proofs.algebraic.Tie as tie
+
+-- src/lib.rt:40:17
+sub-place : tie.Need-sub-place
+sub-place c = search needs
+
+-- src/lib.rt:41:20
+mul-t4 : tie.Need-mul-t4
+mul-t4 c = search needs
+
+-- src/lib.rt:41:20
+array-read-t7 : tie.Need-array-read-t7
+array-read-t7 c = search needs
+
+-- src/lib.rt:36:1
+returns : tie.Need-returns
+unfolding order
+returns c = refl
+
+pub algebraic-spec : {M : Type 1} → statement M
+algebraic-spec = tie.close (tie.spec sub-place mul-t4 array-read-t7 returns)

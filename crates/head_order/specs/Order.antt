@@ -1,0 +1,48 @@
+-- Head order (document 000, note 11; document 01, "Head order"). In a list of nine, physical track p, 1 to 9, stands at
+-- index p − 1, and algebraic track a, 0 to 8, at index a.
+-- Assumes nothing.
+use Prim.Native.Nat.{ℕ, _<_}
+use mathlib.Core.Path.{_≡_}
+use mathlib.Core.List.{List, [], _∷_}
+use lib.Dec.{eqb}
+use lib.ListN.{length, getD}
+use Rattle.indexed.specs.List.{tabulate, firstWhere}
+use Rattle.register.specs.Bit.{bitsOf, ofBits}
+
+-- note 11: the algebraic tracks on physical tracks 1 to 9, the P track being 8
+unfoldable pub order : List ℕ
+order = 1 ∷ 4 ∷ 7 ∷ 8 ∷ 3 ∷ 6 ∷ 0 ∷ 2 ∷ 5 ∷ []
+
+-- the index at which a number first stands
+unfoldable pub indexIn : List ℕ → ℕ → ℕ
+indexIn places a = firstWhere (λ b. eqb b a) places
+
+-- for algebraic tracks 0 to 8, the index of the physical track that has it
+unfoldable pub inverse : List ℕ → List ℕ
+inverse places = tabulate 9 (λ a. indexIn places a)
+
+-- nine places that are 0 to 8, each once
+pub record Permutation (places : List ℕ) : Type 0 where
+  pub nine : length places ≡ 9
+  pub below : (k : ℕ) → k < 9 → getD places k 0 < 9
+  pub once : (k : ℕ) → k < 9 → indexIn places (getD places k 0) ≡ k
+  pub onto : (a : ℕ) → a < 9 → indexIn places a < 9
+
+-- the nine elements at the nine places
+unfoldable pub arranged : List ℕ → List ℕ → List ℕ
+arranged places elements = tabulate 9 (λ k. getD elements (getD places k 0) 0)
+
+-- nine elements in code order, moved to head order
+unfoldable pub toPhysical : List ℕ → List ℕ
+toPhysical elements = arranged order elements
+
+-- nine elements in head order, moved to code order
+unfoldable pub toAlgebraic : List ℕ → List ℕ
+toAlgebraic elements = arranged (inverse order) elements
+
+-- a pointer map moves as its nine bits do
+unfoldable pub mapToPhysical : ℕ → ℕ
+mapToPhysical m = ofBits (toPhysical (bitsOf 9 m))
+
+unfoldable pub mapToAlgebraic : ℕ → ℕ
+mapToAlgebraic m = ofBits (toAlgebraic (bitsOf 9 m))

@@ -1,0 +1,101 @@
+// Head order: numbers between the physical tracks of the head and the algebraic tracks of the code
+// (document 000, note 11; document 01, "Head order").
+pub mod to_algebraic;
+pub mod to_physical;
+
+use answer::Reason;
+use answer::Refusal;
+ghost use mathlib.Core.Path.{_≡_};
+ghost use Prim.Native.Nat.{ℕ, _-_, _≤_, _<_};
+ghost use lib.ListN.{length, getD};
+ghost use Rattle.register.specs.Bit.{bitsOf, ofBits};
+ghost use Rattle.head_order.specs.Order.{order};
+ghost use Rattle.head_order.specs.Moved.{toldWords, wordsAnswer};
+
+// A track of the head, 1 to 9.
+pub struct PhysicalTrack(pub usize);
+
+// A track of the code, 0 to 8.
+pub struct AlgebraicTrack(pub usize);
+
+// The largest word, of ten bits, and the largest map, of nine.
+const MOST_WORD: u16 = 1023;
+
+const MOST_MAP: u16 = 511;
+
+// Note 11: the algebraic tracks on physical tracks 1 to 9.
+const ORDER: [usize; 9] = [1, 4, 7, 8, 3, 6, 0, 2, 5];
+
+// What moving nine words answers.
+pub enum MovedWords {
+    Delivered,
+    Refused(Refusal),
+}
+
+// What moving a pointer map answers.
+pub enum MovedMap {
+    Delivered(u16),
+    Refused(Refusal),
+}
+
+// The only way from one numbering to the other.
+fn algebraic(track: PhysicalTrack) -> AlgebraicTrack
+    requires { ⌜ (1 ≤ track .0) × (track .0 ≤ 9) ⌝ }
+    ensures { λ r. ⌜ r .0 ≡ getD order (track .0 - 1) 0 ⌝ }
+{
+    let place = track.0 - 1;
+    AlgebraicTrack(ORDER[place])
+}
+
+// The nine bits of a map, bit k at k.
+fn bits(map: u16) -> [u16; 9]
+    ensures { λ r. ⌜ r ≡ bitsOf 9 map ⌝ }
+{
+    let mut found = [0u16; 9];
+    let mut k = 0;
+    while k < 9 {
+        found[k] = (map >> k) % 2;
+        k += 1;
+    }
+    found
+}
+
+// The map whose nine bits these are.
+fn map_of(bits: &[u16]) -> u16
+    requires { ⌜ (length (now bits) ≡ 9) × ((k : ℕ) → getD (now bits) k 0 < 2) ⌝ }
+    ensures { λ r. ⌜ r ≡ ofBits (now (bits .entry)) ⌝ }
+{
+    let mut map: u16 = 0;
+    let mut k = 9;
+    while k > 0 {
+        k -= 1;
+        map = map * 2 + bits[k];
+    }
+    map
+}
+
+// Refusals 1, 2 and 3, in this order, or the delivery.
+fn checked(source: &[u16], space: usize) -> MovedWords
+    ensures { λ r. ⌜ toldWords r ≡ wordsAnswer (now (source .entry)) space ⌝ }
+{
+    if source.len() != 9 {
+        return MovedWords::Refused(Refusal {
+            reason: Reason::Length,
+            place: 0,
+        });
+    }
+    if space < 9 {
+        return MovedWords::Refused(Refusal {
+            reason: Reason::Space,
+            place: 0,
+        });
+    }
+    let place = answer::first_above(source, MOST_WORD);
+    if place < 9 {
+        return MovedWords::Refused(Refusal {
+            reason: Reason::StrayBits,
+            place,
+        });
+    }
+    MovedWords::Delivered
+}

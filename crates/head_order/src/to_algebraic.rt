@@ -1,0 +1,56 @@
+// From head order to code order.
+use crate::MovedMap;
+use crate::MovedWords;
+use crate::PhysicalTrack;
+use answer::Reason;
+use answer::Refusal;
+ghost use mathlib.Core.Path.{_≡_};
+ghost use mathlib.Core.List.{_++_};
+ghost use Prim.Native.Nat.{_≤_};
+ghost use lib.ListN.{length, drop};
+ghost use Rattle.answer.specs.Answer.{outputAfter};
+ghost use Rattle.head_order.specs.Order.{toAlgebraic, mapToAlgebraic};
+ghost use Rattle.head_order.specs.Moved.{toldWords, toldMap, wordsAnswer, mapAnswer};
+
+// Nine words of head order, put into code order at the front of the target.
+fn arrange(source: &[u16], target: &mut [u16])
+    requires { ⌜ (length (now source) ≡ 9) × (9 ≤ length (now target)) ⌝ }
+    ensures { λ _. ⌜ now (target .exit) ≡ toAlgebraic (now (source .entry)) ++ drop 9 (now (target .entry)) ⌝ }
+{
+    let mut place = 0;
+    while place < 9 {
+        let track = crate::algebraic(PhysicalTrack(place + 1));
+        let to = track.0;
+        target[to] = source[place];
+        place += 1;
+    }
+}
+
+// Moves nine words.
+pub fn words(source: &[u16], target: &mut [u16]) -> MovedWords
+    ensures answer { λ r. ⌜ toldWords r ≡ wordsAnswer (now (source .entry)) (length (now (target .entry))) ⌝ }
+    ensures output { λ r. ⌜ now (target .exit) ≡ outputAfter (toldWords r) (toAlgebraic (now (source .entry))) (now (target .entry)) ⌝ }
+{
+    let answer = crate::checked(source, target.len());
+    if let MovedWords::Delivered = answer {
+        arrange(source, target);
+    }
+    answer
+}
+
+// Moves a pointer map. Physical track p is bit p - 1 of what comes, and algebraic track a is bit a of
+// what is told.
+pub fn map(map: u16) -> MovedMap
+    ensures { λ r. ⌜ toldMap r ≡ mapAnswer mapToAlgebraic map ⌝ }
+{
+    if map > crate::MOST_MAP {
+        return MovedMap::Refused(Refusal {
+            reason: Reason::StrayBits,
+            place: 0,
+        });
+    }
+    let source = crate::bits(map);
+    let mut target = [0u16; 9];
+    arrange(&source, &mut target);
+    MovedMap::Delivered(crate::map_of(&target))
+}

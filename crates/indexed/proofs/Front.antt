@@ -1,0 +1,34 @@
+-- A result that a loop stores at the front of an output, one element a turn: after k turns the output holds the result's
+-- first k elements, and behind them what it held.
+-- Assumes nothing.
+use mathlib.Core.Path.{_≡_, sym, ap, _∙_}
+use mathlib.Core.List.{List, _++_}
+use Prim.Native.Nat.{ℕ, suc, _+_, _≤_, _<_}
+use native.Mathlib.Nat.{le-of-lt, add-sub-of-le}
+use native.Mathlib.Numerals.{add-one}
+use lib.ListN.{length, getD, take, drop, set, length-append, length-drop}
+use lib.Seq.{drop-cons, take-suc, set-at, append-snoc, length-take-le, take-length}
+
+abbrev pub front : {A : Type 0} → ℕ → List A → List A → List A
+front k result output = take k result ++ drop k output
+
+pub front-more : {A : Type 0} (k : ℕ) (result output : List A) (d : A) → k < length result → k < length output
+    → set (front k result output) k (getD result k d) ≡ front (k + 1) result output
+front-more k result output d hr ho =
+    ap (λ (r : List _). set (take k result ++ r) k (getD result k d)) (drop-cons output k d ho)
+    ∙ set-at (take k result) (getD output k d) (drop (suc k) output) (getD result k d) k (length-take-le k result (le-of-lt hr))
+    ∙ sym (append-snoc (take k result) (getD result k d) (drop (suc k) output))
+    ∙ ap (λ (r : List _). r ++ drop (suc k) output) (sym (take-suc result k d hr))
+    ∙ ap (λ (j : ℕ). front j result output) (sym (add-one k))
+
+pub length-front : {A : Type 0} (k : ℕ) (result output : List A) → k ≤ length result → k ≤ length output
+    → length (front k result output) ≡ length output
+length-front k result output hr ho =
+    length-append (take k result) (drop k output)
+    ∙ ap (λ (j : ℕ). j + length (drop k output)) (length-take-le k result hr)
+    ∙ ap (λ (j : ℕ). k + j) (length-drop k output)
+    ∙ add-sub-of-le ho
+
+pub front-all : {A : Type 0} (k : ℕ) (result output : List A) → k ≡ length result → front k result output ≡ result ++ drop k output
+front-all k result output e =
+    ap (λ (j : ℕ). take j result ++ drop k output) e ∙ ap (λ (r : List _). r ++ drop k output) (take-length result)

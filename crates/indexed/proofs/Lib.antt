@@ -1,0 +1,4 @@
+pub mod Test
+pub mod Tabulate
+pub mod First
+pub mod Front

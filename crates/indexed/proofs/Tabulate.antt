@@ -1,0 +1,45 @@
+-- Lists given by their elements: length, elements, and a list as the table of its own elements.
+-- Assumes nothing.
+use mathlib.Core.Path.{_≡_, refl, sym, ap, _∙_, fun-ext}
+use mathlib.Core.List.{List, _∷_}
+use Prim.Native.Nat.{ℕ, zero, suc, _+_, _<_}
+use native.Mathlib.Nat.{add-zero, zero-add, add-suc, suc-add, not-suc-le-zero, le-of-suc-le-suc}
+use lib.ListN.{length, getD}
+use Rattle.indexed.specs.List.{tabulate, tabulateFrom}
+
+length-from : {A : Type 0} (i n : ℕ) (f : ℕ → A) → length (tabulateFrom i n f) ≡ n
+unfolding tabulateFrom
+length-from i zero f = refl
+length-from i (suc n) f = ap suc (length-from (suc i) n f)
+
+getD-from : {A : Type 0} (i n : ℕ) (f : ℕ → A) (k : ℕ) (d : A) → k < n → getD (tabulateFrom i n f) k d ≡ f (i + k)
+unfolding tabulateFrom
+getD-from i zero f k d h = absurd (not-suc-le-zero h)
+getD-from i (suc n) f zero d h = ap f (sym (add-zero i))
+getD-from i (suc n) f (suc k) d h =
+    getD-from (suc i) n f k d (le-of-suc-le-suc h) ∙ ap f (suc-add i k ∙ sym (add-suc i k))
+
+pub length-tabulate : {A : Type 0} (n : ℕ) (f : ℕ → A) → length (tabulate n f) ≡ n
+unfolding tabulate
+length-tabulate n f = length-from 0 n f
+
+pub getD-tabulate : {A : Type 0} (n : ℕ) (f : ℕ → A) (k : ℕ) (d : A) → k < n → getD (tabulate n f) k d ≡ f k
+unfolding tabulate
+getD-tabulate n f k d h = getD-from 0 n f k d h ∙ ap f (zero-add k)
+
+-- a table that is computed to be the list of its rule's values keeps the rule at each index
+pub ruled : {A : Type 0} (table : List A) (n : ℕ) (f : ℕ → A) → table ≡ tabulate n f → (k : ℕ) (d : A) → k < n → getD table k d ≡ f k
+ruled table n f e k d h = ap (λ (l : List _). getD l k d) e ∙ getD-tabulate n f k d h
+
+-- the first value, and the table of the others
+from-suc : {A : Type 0} (i n : ℕ) (f : ℕ → A) → tabulateFrom (suc i) n f ≡ tabulateFrom i n (λ k. f (suc k))
+unfolding tabulateFrom
+from-suc i zero f = refl
+from-suc i (suc n) f = ap (λ (l : List _). f (suc i) ∷ l) (from-suc (suc i) n f)
+
+pub tabulate-suc : {A : Type 0} (n : ℕ) (f : ℕ → A) → tabulate (suc n) f ≡ f 0 ∷ tabulate n (λ k. f (suc k))
+unfolding tabulate tabulateFrom
+tabulate-suc n f = ap (λ (l : List _). f 0 ∷ l) (from-suc 0 n f)
+
+pub tabulate-ext : {A : Type 0} (n : ℕ) (f g : ℕ → A) → ((k : ℕ) → f k ≡ g k) → tabulate n f ≡ tabulate n g
+tabulate-ext n f g e = ap (tabulate n) (fun-ext e)

@@ -1,0 +1,19 @@
+-- Lists by index.
+-- Assumes nothing.
+use Prim.Native.Nat.{ℕ, zero, suc}
+use mathlib.Core.Bool.{Bool, cond}
+use mathlib.Core.List.{List, [], _∷_}
+
+-- f i, f (i + 1), .., n of them
+unfoldable pub tabulateFrom : {A : Type 0} → ℕ → ℕ → (ℕ → A) → List A
+tabulateFrom i zero f = []
+tabulateFrom i (suc n) f = f i ∷ tabulateFrom (suc i) n f
+
+-- f 0, f 1, .., f (n - 1)
+unfoldable pub tabulate : {A : Type 0} → ℕ → (ℕ → A) → List A
+tabulate n f = tabulateFrom 0 n f
+
+-- the index of the first element that passes the test, or the length where none does
+unfoldable pub firstWhere : (ℕ → Bool) → List ℕ → ℕ
+firstWhere p [] = zero
+firstWhere p (x ∷ xs) = cond (p x) zero (suc (firstWhere p xs))

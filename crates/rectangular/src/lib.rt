@@ -1,0 +1,45 @@
+// The rectangular code of document 000: its constants, and its register.
+ghost use mathlib.Core.Path.{_≡_};
+ghost use Rattle.rectangular.specs.Constants.{timesT, timesPower};
+
+// The code's register (document 000, figure 7), which holds one byte.
+pub struct Code6250 {
+    pub register: u8,
+}
+
+impl Code6250 {
+    // What X^8 leaves modulo g = 1 + X^3 + X^4 + X^5 + X^8.
+    pub const FEEDBACK: u8 = 57;
+    // The first positive power of T that is the identity.
+    pub const EXPONENT: usize = 17;
+
+    // The register before any byte: all zeros.
+    pub fn fresh() -> Code6250
+        ensures { λ r. ⌜ r .register ≡ 0 ⌝ }
+    {
+        Code6250 { register: 0 }
+    }
+
+    // One shift: T times the register.
+    pub fn shifted(self) -> Code6250
+        ensures { λ r. ⌜ r .register ≡ timesT (self .register) ⌝ }
+    {
+        let a = self.register;
+        Code6250 {
+            register: (a % 128) * 2 ^ (a / 128) * Code6250::FEEDBACK,
+        }
+    }
+
+    // T to a power, times the register. Powers count modulo the exponent, so few shifts do for any.
+    pub fn powered(self, power: usize) -> Code6250
+        ensures { λ r. ⌜ r .register ≡ timesPower power (self .register) ⌝ }
+    {
+        let mut code = self;
+        let mut left = power % Code6250::EXPONENT;
+        while left > 0 {
+            code = code.shifted();
+            left -= 1;
+        }
+        code
+    }
+}

@@ -1,0 +1,48 @@
+/* Rindthok: records of nine-track tape, and numbers between head order and code order.
+ *
+ * Each call returns 0 for a delivery, or the number of a refusal, and stores the refusal's place
+ * through `place`, or 0. Any lengths and any values may be passed: bad input is refused.
+ * A refusal leaves every output as it was. A delivery writes its result at the front of the output
+ * and nothing behind it. That is proved of the library, with the contracts of crates/rindthok.
+ *
+ * The caller passes pointers that hold for the lengths beside them, and slices that do not overlap.
+ */
+#ifndef RINDTHOK_H
+#define RINDTHOK_H
+
+#include <stddef.h>
+#include <stdint.h>
+
+#ifdef __cplusplus
+extern "C" {
+#endif
+
+/* The refusals of document 01, "Where a call is turned down". */
+enum rindthok_refusal {
+    RINDTHOK_LENGTH = 1,          /* a length is outside the limits */
+    RINDTHOK_SPACE = 2,           /* the output has too little space */
+    RINDTHOK_STRAY_BITS = 3,      /* a word, character or map has a bit beyond its width */
+    RINDTHOK_MANY_POINTED = 4,    /* three or more tracks of a group are pointed */
+    RINDTHOK_NO_GROUP = 5,        /* no group of the code fits */
+    RINDTHOK_PADDING = 6,         /* the padding is not as a writer leaves it */
+    RINDTHOK_NO_RECORD = 7,       /* no written record fits */
+    RINDTHOK_SEVERAL_RECORDS = 8  /* more than one written record fits */
+};
+
+/* Nine words of ten bits from code order (algebraic track a at index a) to head order (physical track
+ * p, 1 to 9, at index p - 1), by the order of document 000, note 11; and back. The target has space
+ * for nine or more. Refusals: 1 if there are not nine words, 2 if the space is short, 3 if a word is
+ * above 1023, with the index of the first such word as its place. */
+uint16_t rindthok_words_to_physical(const uint16_t *source, size_t source_length, uint16_t *target, size_t target_length, size_t *place);
+uint16_t rindthok_words_to_algebraic(const uint16_t *source, size_t source_length, uint16_t *target, size_t target_length, size_t *place);
+
+/* A pointer map of nine bits from code order (algebraic track a in bit a) to head order (physical
+ * track p in bit p - 1), and back. Refusal: 3, with place 0, if the map is above 511. */
+uint16_t rindthok_map_to_physical(uint16_t map, uint16_t *moved, size_t *place);
+uint16_t rindthok_map_to_algebraic(uint16_t map, uint16_t *moved, size_t *place);
+
+#ifdef __cplusplus
+}
+#endif
+
+#endif

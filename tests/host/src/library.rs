@@ -1,0 +1,51 @@
+//! The proved archive, as include/rindthok.h declares it, behind safe functions.
+
+extern "C" {
+    fn rindthok_words_to_physical(source: *const u16, sources: usize, target: *mut u16, targets: usize, place: *mut usize) -> u16;
+    fn rindthok_words_to_algebraic(source: *const u16, sources: usize, target: *mut u16, targets: usize, place: *mut usize) -> u16;
+    fn rindthok_map_to_physical(map: u16, moved: *mut u16, place: *mut usize) -> u16;
+    fn rindthok_map_to_algebraic(map: u16, moved: *mut u16, place: *mut usize) -> u16;
+}
+
+/// What a call answers: document 01's delivery, or its refusal with number and place.
+#[derive(Clone, Debug, PartialEq, Eq)]
+pub enum Answer {
+    Delivered(Vec<u64>),
+    Refused(u16, usize),
+}
+
+#[derive(Clone, Copy, Debug)]
+pub enum Toward {
+    Physical,
+    Algebraic,
+}
+
+pub fn words(toward: Toward, source: &[u16], target: &mut [u16]) -> Answer {
+    let mut place = usize::MAX;
+    let call = match toward {
+        Toward::Physical => rindthok_words_to_physical,
+        Toward::Algebraic => rindthok_words_to_algebraic,
+    };
+    let status = unsafe { call(source.as_ptr(), source.len(), target.as_mut_ptr(), target.len(), &mut place) };
+    answer(status, place, || vec![])
+}
+
+pub fn map(toward: Toward, map: u16, moved: &mut u16) -> Answer {
+    let mut place = usize::MAX;
+    let call = match toward {
+        Toward::Physical => rindthok_map_to_physical,
+        Toward::Algebraic => rindthok_map_to_algebraic,
+    };
+    let status = unsafe { call(map, moved, &mut place) };
+    answer(status, place, || vec![u64::from(*moved)])
+}
+
+fn answer(status: u16, place: usize, values: impl Fn() -> Vec<u64>) -> Answer {
+    match status {
+        0 => {
+            assert_eq!(place, 0, "a delivery stores 0 for the place");
+            Answer::Delivered(values())
+        }
+        number => Answer::Refused(number, place),
+    }
+}

@@ -1,0 +1,100 @@
+//! Tests of the proved archive from outside: the outside cases of tests/vectors, and comparisons
+//! with implementations that share nothing with the library. The last line is `N passed, M failed`.
+
+mod head_order;
+mod library;
+mod vectors;
+
+use library::Toward;
+use vectors::LENT;
+
+/// A seeded generator (splitmix64), so that every run tries the same cases.
+struct Seeded(u64);
+
+impl Seeded {
+    fn next(&mut self) -> u64 {
+        self.0 = self.0.wrapping_add(0x9E37_79B9_7F4A_7C15);
+        let mut z = self.0;
+        z = (z ^ (z >> 30)).wrapping_mul(0xBF58_476D_1CE4_E5B9);
+        z = (z ^ (z >> 27)).wrapping_mul(0x94D0_49BB_1331_11EB);
+        z ^ (z >> 31)
+    }
+
+    fn below(&mut self, bound: u64) -> u64 {
+        self.next() % bound
+    }
+}
+
+/// The cases tried, and what went wrong in those that differ.
+struct Tried {
+    cases: usize,
+    wrong: Vec<String>,
+}
+
+fn vector_file(name: &str) -> Tried {
+    let path = format!("{}/../vectors/{name}", env!("CARGO_MANIFEST_DIR"));
+    let text = std::fs::read_to_string(&path).expect("the vectors are in the repository");
+    let mut tried = Tried { cases: 0, wrong: vec![] };
+    for line in text.lines() {
+        tried.cases += 1;
+        if let Err(what) = vectors::run(line) {
+            tried.wrong.push(format!("{line}: {what}"));
+        }
+    }
+    tried
+}
+
+fn every_map(toward: Toward) -> Tried {
+    let mut tried = Tried { cases: 0, wrong: vec![] };
+    for map in 0..=u16::MAX {
+        tried.cases += 1;
+        let mut moved = LENT;
+        let got = library::map(toward, map, &mut moved);
+        let want = head_order::map(toward, map);
+        let kept = map < 512 || moved == LENT;
+        if got != want || !kept {
+            tried.wrong.push(format!("map {map}: {got:?} for {want:?}, output {moved}"));
+        }
+    }
+    tried
+}
+
+fn random_words(toward: Toward) -> Tried {
+    let mut seeded = Seeded(212);
+    let mut tried = Tried { cases: 0, wrong: vec![] };
+    for case in 0..200_000 {
+        tried.cases += 1;
+        let count = if case % 8 == 0 { seeded.below(20) } else { 9 };
+        let bound = if case % 4 == 1 { 1040 } else { 1024 };
+        let source: Vec<u16> = (0..count).map(|_| seeded.below(bound) as u16).collect();
+        let space = if case % 8 == 2 { seeded.below(9) } else { 9 + seeded.below(4) } as usize;
+        let mut target = vec![LENT; space];
+        let mut after = vec![LENT; space];
+        let got = library::words(toward, &source, &mut target);
+        let want = head_order::words(toward, &source, &mut after);
+        if got != want || target != after {
+            tried.wrong.push(format!("words {source:?}: {got:?} for {want:?}, output {target:?}"));
+        }
+    }
+    tried
+}
+
+fn main() {
+    let suites: Vec<(&str, Tried)> = vec![
+        ("head order, outside cases", vector_file("head_order.txt")),
+        ("every map to physical", every_map(Toward::Physical)),
+        ("every map to algebraic", every_map(Toward::Algebraic)),
+        ("seeded words to physical", random_words(Toward::Physical)),
+        ("seeded words to algebraic", random_words(Toward::Algebraic)),
+    ];
+    let mut failed = 0;
+    for (name, tried) in &suites {
+        println!("{name}: {} cases, {} differ", tried.cases, tried.wrong.len());
+        for what in tried.wrong.iter().take(5) {
+            println!("  {what}");
+        }
+        failed += usize::from(!tried.wrong.is_empty() || tried.cases == 0);
+    }
+    println!("{} passed, {failed} failed", suites.len() - failed);
+    std::process::exit(i32::from(failed > 0));
+}
