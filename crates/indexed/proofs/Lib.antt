@@ -1,4 +1,5 @@
 pub mod Test
+pub mod Differ
 pub mod Tabulate
 pub mod First
 pub mod Front

@@ -1,9 +1,9 @@
 -- Lists given by their elements: length, elements, and a list as the table of its own elements.
 -- Assumes nothing.
-use mathlib.Core.Path.{_≡_, refl, sym, ap, _∙_, fun-ext}
+use mathlib.Core.Path.{_≡_, refl, sym, ap, ap₂, _∙_}
 use mathlib.Core.List.{List, _∷_}
-use Prim.Native.Nat.{ℕ, zero, suc, _+_, _<_}
-use native.Mathlib.Nat.{add-zero, zero-add, add-suc, suc-add, not-suc-le-zero, le-of-suc-le-suc}
+use Prim.Native.Nat.{ℕ, zero, suc, _+_, _<_, suc-le-suc}
+use native.Mathlib.Nat.{add-zero, zero-add, add-suc, suc-add, not-suc-le-zero, le-of-suc-le-suc, zero-lt-suc}
 use lib.ListN.{length, getD}
 use Rattle.indexed.specs.List.{tabulate, tabulateFrom}
 
@@ -41,5 +41,14 @@ pub tabulate-suc : {A : Type 0} (n : ℕ) (f : ℕ → A) → tabulate (suc n) f
 unfolding tabulate tabulateFrom
 tabulate-suc n f = ap (λ (l : List _). f 0 ∷ l) (from-suc 0 n f)
 
-pub tabulate-ext : {A : Type 0} (n : ℕ) (f g : ℕ → A) → ((k : ℕ) → f k ≡ g k) → tabulate n f ≡ tabulate n g
-tabulate-ext n f g e = ap (tabulate n) (fun-ext e)
+-- the same values at each index below n, the same table
+from-same : {A : Type 0} (i n : ℕ) (f g : ℕ → A) → ((k : ℕ) → k < n → f (i + k) ≡ g (i + k)) → tabulateFrom i n f ≡ tabulateFrom i n g
+unfolding tabulateFrom
+from-same i zero f g e = refl
+from-same i (suc n) f g e =
+    ap₂ (λ (x : _) (l : List _). x ∷ l) (rw add-zero at (e 0 (zero-lt-suc n)))
+    (from-same (suc i) n f g (λ k h. rw (suc-add, ← add-suc) (e (suc k) (suc-le-suc h))))
+
+pub tabulate-same : {A : Type 0} (n : ℕ) (f g : ℕ → A) → ((k : ℕ) → k < n → f k ≡ g k) → tabulate n f ≡ tabulate n g
+unfolding tabulate
+tabulate-same n f g e = from-same 0 n f g (λ k h. rw zero-add (e k h))

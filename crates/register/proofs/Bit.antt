@@ -12,7 +12,7 @@ use lib.Seq.{drop-cons}
 use lib.Pow.{shr-shr}
 use lib.Arith.{lt-one}
 use Rattle.indexed.specs.List.{tabulate, tabulateFrom}
-use Rattle.indexed.proofs.Tabulate.{length-tabulate, getD-tabulate, tabulate-suc, tabulate-ext}
+use Rattle.indexed.proofs.Tabulate.{length-tabulate, getD-tabulate, tabulate-suc, tabulate-same}
 use Rattle.register.specs.Bit.{bit, bitsOf, ofBits}
 use Rattle.register.proofs.Xor.{odd-lt}
 
@@ -52,7 +52,7 @@ pub bitsOf-suc : (w a : ℕ) → bitsOf (suc w) a ≡ a % 2 ∷ bitsOf w (a / 2)
 unfolding bitsOf
 bitsOf-suc w a =
     tabulate-suc w (λ k. bit k a)
-    ∙ ap₂ (λ (x : ℕ) (l : List ℕ). x ∷ l) (bit-zero a) (tabulate-ext w _ _ (λ k. bit-suc k a))
+    ∙ ap₂ (λ (x : ℕ) (l : List ℕ). x ∷ l) (bit-zero a) (tabulate-same w _ _ (λ k h. bit-suc k a))
 
 bitsOf-zero : (a : ℕ) → bitsOf 0 a ≡ []
 unfolding bitsOf tabulate tabulateFrom

@@ -2,8 +2,9 @@
 -- Assumes nothing.
 use mathlib.Core.Path.{_≡_, sym, ap, subst, _∙_}
 use mathlib.Core.Bool.{not}
-use Prim.Native.Nat.{ℕ, zero, suc, _*_, _/_, _%_, _^_, _<_}
-use native.Mathlib.Nat.{zero-lt-suc, lt-irrefl, le-of-suc-le-suc, zero-mul, suc-mul, div-add-mod'}
+use Prim.Native.Nat.{ℕ, zero, suc, _+_, _-_, _*_, _/_, _%_, _^_, _<_}
+use native.Mathlib.Nat.{zero-lt-suc, lt-irrefl, le-of-suc-le-suc, zero-mul, suc-mul, mul-le-mul-left, div-add-mod'}
+use native.Mathlib.Omega.{arith}
 use lib.Dec.{T, eqb, eqb→eq, eqb-refl, T-not}
 use Rattle.indexed.specs.Test.{allBelow}
 use Rattle.indexed.proofs.Test.{tested}
@@ -41,3 +42,12 @@ module _ (w f n : ℕ) (x : Exponent w f n) (fits : f < 2 ^ w) where
       sym (ap (λ (j : ℕ). shifts w f j a) (sym (div-add-mod' k n))
       ∙ shifts-add w f (k / n * n) (k % n) a
       ∙ multiples (k / n) (shifts w f (k % n) a) (shifts-lt w f (k % n) a fits h))
+
+  -- so a power of the shift takes no two values to one
+  pub shifts-injective : (k a b : ℕ) → a < 2 ^ w → b < 2 ^ w → shifts w f k a ≡ shifts w f k b → a ≡ b
+  shifts-injective k a b ha hb e = sym (round a ha) ∙ ap (shifts w f (k * n - k)) e ∙ round b hb
+    where
+      round : (c : ℕ) → c < 2 ^ w → shifts w f (k * n - k) (shifts w f k c) ≡ c
+      round c h =
+          let whole : k * n - k + k ≡ k * n = omega (arith, mul-le-mul-left k (x .positive)) in
+          sym (shifts-add w f (k * n - k) k c) ∙ ap (λ (j : ℕ). shifts w f j c) whole ∙ multiples k c h

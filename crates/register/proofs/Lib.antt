@@ -1,5 +1,7 @@
 pub mod Xor
 pub mod Bit
 pub mod Shift
+pub mod Sum
+pub mod Expand
 pub mod Exponent
 pub mod Parity

@@ -7,27 +7,27 @@ use native.Mathlib.Decide.{le-ind}
 use lib.Arith.{bin-ind, half-le}
 use lib.Bits.{differ}
 use Rattle.register.specs.Xor.{_⊕_}
-use Rattle.register.specs.Parity.{parity, parityOf}
+use Rattle.register.specs.Parity.{parity, parityDigits}
 use Rattle.register.proofs.Xor.{digit-ind, odd-lt, differ-lt, xor-half, xor-odd}
 
-more : (n a : ℕ) → a ≤ n → parityOf (suc n) a ≡ parityOf n a
-unfolding parityOf
+more : (n a : ℕ) → a ≤ n → parityDigits (suc n) a ≡ parityDigits n a
+unfolding parityDigits
 more zero zero h = refl
 more zero (suc a) h = absurd (not-suc-le-zero h)
 more (suc n) zero h = refl
 more (suc n) (suc a) h = ap (λ (x : ℕ). differ (suc a % 2) x) (more n (suc a / 2) (half-le h))
 
-enough : (n a : ℕ) → a ≤ n → parityOf n a ≡ parityOf a a
-enough n a h = le-ind (λ (m : ℕ). parityOf m a ≡ parityOf a a) refl (λ m k e. more m a k ∙ e) n h
+enough : (n a : ℕ) → a ≤ n → parityDigits n a ≡ parityDigits a a
+enough n a h = le-ind (λ (m : ℕ). parityDigits m a ≡ parityDigits a a) refl (λ m k e. more m a k ∙ e) n h
 
 -- the lowest digit, and the parity of the others
 pub parity-step : (a : ℕ) → parity a ≡ differ (a % 2) (parity (a / 2))
-unfolding parity parityOf
+unfolding parity parityDigits
 parity-step zero = refl
 parity-step (suc a) = ap (λ (x : ℕ). differ (suc a % 2) x) (enough a (suc a / 2) (half-le (le-refl (suc a))))
 
 pub parity-lt : (a : ℕ) → parity a < 2
-unfolding parity parityOf
+unfolding parity parityDigits
 parity-lt a =
     bin-ind (λ (a : ℕ). parity a < 2) (zero-lt-suc 1)
     (λ a ih. rw (parity-step a) (differ-lt (a % 2) (parity (a / 2)) (odd-lt a) ih)) a
@@ -46,7 +46,7 @@ differ-swap x y z w hx hy hz hw =
     (digit-ind (λ (w : ℕ). w ≡ differ 1 (differ 1 w)) refl refl w hw) refl z hz) y hy) x hx
 
 zero-xor : (b : ℕ) → parity (0 ⊕ b) ≡ differ (parity 0) (parity b)
-unfolding parity parityOf
+unfolding parity parityDigits
 zero-xor b = refl
 
 pub parity-xor : (a b : ℕ) → parity (a ⊕ b) ≡ differ (parity a) (parity b)

@@ -2,9 +2,9 @@
 -- Assumes nothing.
 use mathlib.Core.Path.{_≡_, refl, sym, ap, ap₂, _∙_}
 use Prim.Native.Nat.{ℕ, zero, suc, _+_, _-_, _*_, _/_, _%_, _^_, _<_}
-use native.Mathlib.Nat.{mod-lt, zero-lt-suc, pow-suc, zero-add, suc-add, mul-comm, zero-mul, div-lt-iff-lt-mul}
+use native.Mathlib.Nat.{mod-lt, mod-eq-of-lt, div-eq-of-lt, zero-lt-suc, pow-suc, zero-add, suc-add, mul-comm, zero-mul, div-lt-iff-lt-mul}
 use native.Mathlib.Omega.{arith}
-use lib.Pow.{pow-pos, shr-shr}
+use lib.Pow.{pow-pos, pow-lt, shr-shr}
 use lib.Arith.{mod-mul}
 use native.Mathlib.Numerals.{one-add}
 use lib.Bits.{xor-lt, xor-shr, xor-mod, xor-block, xor-self, xor-zero-r}
@@ -96,3 +96,30 @@ unfolding shifts
 shifts-turn w f k a h =
     let again : k - 1 + 1 ≡ k = omega arith in
     sym (shifts-add w f (k - 1) 1 a) ∙ ap (λ (n : ℕ). shifts w f n a) again
+
+pub shifts-zero : (w f k : ℕ) → shifts w f k 0 ≡ 0
+unfolding shifts shift
+shifts-zero w f zero = refl
+shifts-zero w f (suc k) = ap (shift w f) (shifts-zero w f k) ∙ none
+  where
+    none : shift w f 0 ≡ 0
+    none =
+        ap₂ (λ (x y : ℕ). x ⊕ y * f) (mod-eq-of-lt (pow-pos w)) (div-eq-of-lt (pow-pos w)) ∙ zero-mul f
+
+-- a shift that pushes no digit out doubles
+pub shift-low : (w f a : ℕ) → 2 * a < 2 ^ w → shift w f a ≡ 2 * a
+unfolding shift
+shift-low w f a h =
+    ap₂ (λ (x y : ℕ). x ⊕ y * f) (mod-eq-of-lt h) (div-eq-of-lt h)
+    ∙ ap (λ (y : ℕ). 2 * a ⊕ y) (zero-mul f)
+    ∙ xor-zero-r (2 * a)
+
+-- so the powers below w of 1 are its places
+pub shifts-of-one : (w f k : ℕ) → k < w → shifts w f k 1 ≡ 2 ^ k
+unfolding shifts
+shifts-of-one w f zero h = refl
+shifts-of-one w f (suc k) h =
+    let power : 2 ^ suc k ≡ 2 * 2 ^ k = omega arith in
+    ap (shift w f) (shifts-of-one w f k (omega arith))
+    ∙ shift-low w f (2 ^ k) (rw (← power) (pow-lt h))
+    ∙ sym power

@@ -1,5 +1,6 @@
 pub mod Xor
 pub mod Bit
 pub mod Shift
+pub mod Sum
 pub mod Exponent
 pub mod Parity

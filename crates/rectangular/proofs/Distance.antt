@@ -1,0 +1,93 @@
+-- Over the width: two groups of the code that agree but for two tracks are equal (document 000, theorems 1 and 2), so two
+-- unequal groups differ in three tracks at least.
+-- Assumes nothing.
+use mathlib.Core.Path.{_≡_, sym, ap, ap₂, _∙_}
+use Prim.Native.Nat.{ℕ, suc, _+_, _-_, _^_, _<_, _≤_}
+use native.Mathlib.Decide.{ℕ-discrete, decLt}
+use native.Mathlib.Omega.{arith}
+use lib.Bits.{xor-lt, xor-self}
+use lib.Pow.{pow-pos}
+use Rattle.indexed.specs.Differ.{differences}
+use Rattle.indexed.proofs.Differ.{AgreeBut, two}
+use Rattle.register.specs.Shift.{shifts}
+use Rattle.register.specs.Sum.{xorSum}
+use Rattle.register.specs.Xor.{_⊕_}
+use Rattle.register.proofs.Exponent.{shifts-injective}
+use Rattle.register.proofs.Shift.{shifts-lt, shifts-xor, shifts-zero, shifts-add}
+use Rattle.register.proofs.Sum.{sum-ext, sum-xor, sum-one, sum-two}
+use Rattle.register.proofs.Xor.{xor-zero→eq}
+use Rattle.rectangular.specs.Group.{IsGroup, Suits}
+
+module _ (w f : ℕ) (s : Suits w f) (u v : ℕ → ℕ) (gu : IsGroup w f u) (gv : IsGroup w f v) where
+  -- the difference, track by track; it satisfies the same equations
+  d : ℕ → ℕ
+  d k = u k ⊕ v k
+
+  d-lt : (k : ℕ) → k ≤ w → d k < 2 ^ w
+  unfolding d
+  d-lt k h = xor-lt w (u k) (v k) (gu .bounds k h) (gv .bounds k h)
+
+  d-parity : xorSum (suc w) d ≡ 0
+  unfolding d
+  d-parity = sum-xor (suc w) u v ∙ ap₂ _⊕_ (gu .parity) (gv .parity)
+
+  d-checked : xorSum w (λ k. shifts w f k (d k)) ≡ 0
+  unfolding d
+  d-checked =
+      sum-ext w _ (λ k. shifts w f k (u k) ⊕ shifts w f k (v k))
+      (λ k h. shifts-xor w f k (u k) (v k) (s .fits) (gu .bounds k (omega arith)) (gv .bounds k (omega arith)))
+      ∙ sum-xor w (λ k. shifts w f k (u k)) (λ k. shifts w f k (v k))
+      ∙ ap₂ _⊕_ (gu .checked) (gv .checked)
+
+  module _ (i j : ℕ) (below : i < j) (within : j ≤ w) (agree : AgreeBut (suc w) u v i j) where
+    d-elsewhere : (k : ℕ) → k < suc w → (k ≡ i → ⊥) → (k ≡ j → ⊥) → d k ≡ 0
+    unfolding d
+    d-elsewhere k h ni nj = ap (λ (x : ℕ). x ⊕ v k) (agree k h ni nj) ∙ xor-self (v k)
+
+    -- by the parity the two differences are equal
+    d-equal : d i ≡ d j
+    d-equal = xor-zero→eq (d i) (d j) (sym (sum-two (suc w) d i j below (omega arith) d-elsewhere) ∙ d-parity)
+
+    -- by the check equation the difference is kept by a power of T, or taken to 0 by one
+    d-zero : d i ≡ 0
+    d-zero = by (decLt j w)
+      where
+        shifted-zero : (k : ℕ) → d k ≡ 0 → shifts w f k (d k) ≡ 0
+        shifted-zero k e = ap (shifts w f k) e ∙ shifts-zero w f k
+
+        by : Dec (j < w) → d i ≡ 0
+        by (yes h) =
+            let both : shifts w f i (d i) ⊕ shifts w f j (d j) ≡ 0 =
+            sym (sum-two w (λ k. shifts w f k (d k)) i j below h (λ k b ni nj. shifted-zero k (d-elsewhere k (omega arith) ni nj)))
+            ∙ d-checked in
+            let apart : i + (j - i) ≡ j = omega arith in
+            let kept : shifts w f i (shifts w f (j - i) (d i)) ≡ shifts w f i (d i) =
+            sym (shifts-add w f i (j - i) (d i))
+            ∙ ap (λ (n : ℕ). shifts w f n (d i)) apart
+            ∙ ap (shifts w f j) d-equal
+            ∙ sym (xor-zero→eq (shifts w f i (d i)) (shifts w f j (d j)) both) in
+            s .keeps-none (j - i) (omega arith) (omega arith) (d i) (d-lt i (omega arith))
+            (shifts-injective w f (s .exponent) (s .is-exponent) (s .fits) i (shifts w f (j - i) (d i)) (d i)
+            (shifts-lt w f (j - i) (d i) (s .fits) (d-lt i (omega arith))) (d-lt i (omega arith)) kept)
+        by (no h) =
+            let alone : shifts w f i (d i) ≡ 0 =
+            sym (sum-one w (λ k. shifts w f k (d k)) i (omega arith)
+            (λ k b ni. shifted-zero k (d-elsewhere k (omega arith) ni (λ e. omega arith))))
+            ∙ d-checked in
+            shifts-injective w f (s .exponent) (s .is-exponent) (s .fits) i (d i) 0 (d-lt i (omega arith)) (pow-pos w)
+            (alone ∙ sym (shifts-zero w f i))
+
+    pub two-tracks : (k : ℕ) → k ≤ w → u k ≡ v k
+    unfolding d
+    two-tracks k h = xor-zero→eq (u k) (v k) (at (ℕ-discrete k i) (ℕ-discrete k j))
+      where
+        at : Dec (k ≡ i) → Dec (k ≡ j) → d k ≡ 0
+        at (yes e) q = ap d e ∙ d-zero
+        at (no ni) (yes e) = ap d e ∙ sym d-equal ∙ d-zero
+        at (no ni) (no nj) = d-elsewhere k (omega arith) ni nj
+
+  pub three-tracks : differences (suc w) u v ≤ 2 → (k : ℕ) → k ≤ w → u k ≡ v k
+  three-tracks h =
+      let whole : suc w ≡ suc (suc (w - 1)) = ap suc (omega (arith, s .positive)) in
+      let c = two u v (w - 1) (rw whole at h) in
+      two-tracks (c .0) (c .1) (c .2) (omega arith) (rw whole (c .4))
