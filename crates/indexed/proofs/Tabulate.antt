@@ -1,7 +1,7 @@
 -- Lists given by their elements: length, elements, and a list as the table of its own elements.
 -- Assumes nothing.
 use mathlib.Core.Path.{_≡_, refl, sym, ap, ap₂, _∙_}
-use mathlib.Core.List.{List, _∷_}
+use mathlib.Core.List.{List, [], _∷_, _++_}
 use Prim.Native.Nat.{ℕ, zero, suc, _+_, _<_, suc-le-suc}
 use native.Mathlib.Nat.{add-zero, zero-add, add-suc, suc-add, not-suc-le-zero, le-of-suc-le-suc, zero-lt-suc}
 use lib.ListN.{length, getD}
@@ -52,3 +52,15 @@ from-same i (suc n) f g e =
 pub tabulate-same : {A : Type 0} (n : ℕ) (f g : ℕ → A) → ((k : ℕ) → k < n → f k ≡ g k) → tabulate n f ≡ tabulate n g
 unfolding tabulate
 tabulate-same n f g e = from-same 0 n f g (λ k h. rw zero-add (e k h))
+
+-- the last value apart
+from-last : {A : Type 0} (i n : ℕ) (f : ℕ → A) → tabulateFrom i (suc n) f ≡ tabulateFrom i n f ++ (f (i + n) ∷ [])
+unfolding tabulateFrom
+from-last i zero f = ap (λ (k : ℕ). f k ∷ []) (sym (add-zero i))
+from-last i (suc n) f =
+    ap (λ (l : List _). f i ∷ l)
+    (from-last (suc i) n f ∙ ap (λ (k : ℕ). tabulateFrom (suc i) n f ++ (f k ∷ [])) (suc-add i n ∙ sym (add-suc i n)))
+
+pub tabulate-last : {A : Type 0} (n : ℕ) (f : ℕ → A) → tabulate (suc n) f ≡ tabulate n f ++ (f n ∷ [])
+unfolding tabulate
+tabulate-last n f = from-last 0 n f ∙ ap (λ (k : ℕ). tabulateFrom 0 n f ++ (f k ∷ [])) (zero-add n)

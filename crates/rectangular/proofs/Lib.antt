@@ -1,5 +1,6 @@
 pub mod Constants
 pub mod Symmetry
-pub mod Group
+pub mod Equations
 pub mod Distance
 pub mod Suits
+pub mod Packed

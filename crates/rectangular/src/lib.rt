@@ -1,4 +1,7 @@
-// The rectangular code of document 000: its constants, and its register.
+// The rectangular code of document 000: its constants, its register, and its groups.
+mod contribution;
+pub mod group;
+
 ghost use mathlib.Core.Path.{_≡_};
 ghost use Rattle.rectangular.specs.Constants.{timesT, timesPower};
 

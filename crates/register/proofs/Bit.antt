@@ -2,14 +2,14 @@
 -- Assumes nothing.
 use mathlib.Core.Path.{_≡_, refl, sym, ap, ap₂, _∙_}
 use mathlib.Core.List.{List, [], _∷_}
-use Prim.Native.Nat.{ℕ, zero, suc, _+_, _*_, _/_, _%_, _^_, _<_, _≤_}
+use Prim.Native.Nat.{ℕ, zero, suc, _+_, _-_, _*_, _/_, _%_, _^_, _<_, _≤_}
 use native.Mathlib.Nat.{le-refl, zero-lt-suc, div-one, suc-inj, suc-ne-zero}
 use native.Mathlib.Decide.{decLt}
 use native.Mathlib.Numerals.{one-add}
 use native.Mathlib.Omega.{arith}
 use lib.ListN.{length, getD, drop, List·getD-eq-default}
 use lib.Seq.{drop-cons}
-use lib.Pow.{shr-shr}
+use lib.Pow.{shr-shr, field, mod-mod-pow}
 use lib.Arith.{lt-one}
 use Rattle.indexed.specs.List.{tabulate, tabulateFrom}
 use Rattle.indexed.proofs.Tabulate.{length-tabulate, getD-tabulate, tabulate-suc, tabulate-same}
@@ -94,3 +94,19 @@ unfolding ofBits
 ofBits-drop-le l zero = le-refl (ofBits l)
 ofBits-drop-le [] (suc k) = le-refl 0
 ofBits-drop-le (b ∷ bs) (suc k) = omega (arith, ofBits-drop-le bs k)
+
+-- ---- bits of a part: of a number shifted down, and of its lowest bits
+
+pub bit-shr : (r s a : ℕ) → bit r (a / 2 ^ s) ≡ bit (s + r) a
+unfolding bit
+bit-shr r s a = ap (λ (x : ℕ). x % 2) (shr-shr a s r)
+
+pub bit-mod : (r w a : ℕ) → r < w → bit r (a % 2 ^ w) ≡ bit r a
+unfolding bit
+bit-mod r w a h =
+    let above : w ≡ w - r + r = omega arith in
+    let one : w - r ≡ w - r - 1 + 1 = omega arith in
+    ap (λ (n : ℕ). a % 2 ^ n / 2 ^ r % 2) above
+    ∙ ap (λ (x : ℕ). x % 2) (field a (w - r) r)
+    ∙ ap (λ (n : ℕ). a / 2 ^ r % 2 ^ n % 2) one
+    ∙ mod-mod-pow (a / 2 ^ r) (w - r - 1) 1

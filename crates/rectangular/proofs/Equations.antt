@@ -37,11 +37,11 @@ group-ext w f u v e g = record {
 
 -- the two cases of a track
 module _ (w f : ℕ) (info : List ℕ) where
-  track-low : (j : ℕ) → j < w → track w f info j ≡ column w (character w f info) j
+  pub track-low : (j : ℕ) → j < w → track w f info j ≡ column w (character w f info) j
   unfolding track
   track-low j h = ap (λ (b : Bool). cond b (column w (character w f info) j) (xorSum w (column w (character w f info)))) (lt-ltb j w h)
 
-  track-parity : track w f info w ≡ xorSum w (column w (character w f info))
+  pub track-parity : track w f info w ≡ xorSum w (column w (character w f info))
   unfolding track
   track-parity = ap (λ (b : Bool). cond b (column w (character w f info) w) (xorSum w (column w (character w f info)))) (le-ltb w w (le-refl w))
 
