@@ -2,7 +2,7 @@
 -- Assumes nothing.
 use Prim.Native.Nat.{ℕ, zero, suc}
 use mathlib.Core.Bool.{Bool, cond}
-use mathlib.Core.List.{List, [], _∷_}
+use mathlib.Core.List.{List, [], _∷_, _++_}
 
 -- f i, f (i + 1), .., n of them
 unfoldable pub tabulateFrom : {A : Type 0} → ℕ → ℕ → (ℕ → A) → List A
@@ -12,6 +12,11 @@ tabulateFrom i (suc n) f = f i ∷ tabulateFrom (suc i) n f
 -- f 0, f 1, .., f (n - 1)
 unfoldable pub tabulate : {A : Type 0} → ℕ → (ℕ → A) → List A
 tabulate n f = tabulateFrom 0 n f
+
+-- f 0, then f 1, .., then f (n - 1), end to end
+unfoldable pub blocks : {A : Type 0} → ℕ → (ℕ → List A) → List A
+blocks zero f = []
+blocks (suc n) f = blocks n f ++ f n
 
 -- the index of the first element that passes the test, or the length where none does
 unfoldable pub firstWhere : (ℕ → Bool) → List ℕ → ℕ

@@ -11,7 +11,8 @@ use native.Mathlib.Omega.{arith}
 use borrow.Author.Tests.{eq-eqb, ne-eqb}
 use lib.Bits.{xor-comm, xor-shr, xor-mod}
 use lib.Dec.{eqb, eqb·suc-zero}
-use lib.ListN.{getD, List·getD-eq-default}
+use lib.ListN.{length, getD, length-append, List·getD-append, List·getD-eq-default}
+use lib.Seq.{getD-at}
 use lib.Pow.{shr-shr}
 use Rattle.indexed.specs.List.{tabulate}
 use Rattle.indexed.proofs.Tabulate.{length-tabulate, getD-tabulate, tabulate-same, tabulate-last}
@@ -25,7 +26,8 @@ use Rattle.register.proofs.Sum.{sum-ext, sum-one}
 use Rattle.register.proofs.Xor.{xor-assoc, xor-left-comm}
 use Rattle.rectangular.specs.Constants.{feedback, timesPower}
 use Rattle.rectangular.specs.Group.{information, check, character, column, track, group}
-use Rattle.rectangular.specs.Packed.{byteAt, contribution, tracksOf, parityByte}
+use Rattle.rectangular.specs.Packed.{byteAt, valuesOf, contribution, tracksOf, parityByte}
+use Rattle.rectangular.specs.declared.group.Group.{Group}
 use Rattle.rectangular.proofs.Symmetry.{column-lt, bit-column}
 use Rattle.rectangular.proofs.Equations.{track-low, track-parity}
 
@@ -147,3 +149,21 @@ module _ (info : List ℕ) where
       (tabulate-same 8 _ _ (λ j h. byte-is-column j h ∙ sym (track-low 8 feedback info j h)))
       (sum-ext 8 _ _ byte-is-column ∙ sym (track-parity 8 feedback info))
       ∙ sym (tabulate-last 8 (track 8 feedback info))
+
+-- ---- the nine values of a packed group
+
+module _ (g : Group) where
+  pub length-values : length (valuesOf g) ≡ 9
+  unfolding valuesOf
+  length-values = length-append (tabulate 8 (λ j. byteAt j (g .tracks))) (g .parity ∷ []) ∙ ap (λ (n : ℕ). n + 1) (length-tabulate 8 (λ j. byteAt j (g .tracks)))
+
+  pub value-low : (j : ℕ) → j < 8 → getD (valuesOf g) j 0 ≡ byteAt j (g .tracks)
+  unfolding valuesOf
+  value-low j h =
+      let front : ℕ → ℕ = λ j. byteAt j (g .tracks) in
+      List·getD-append (tabulate 8 front) (g .parity ∷ []) 0 j (omega (arith, length-tabulate 8 front))
+      ∙ getD-tabulate 8 front j 0 h
+
+  pub value-parity : getD (valuesOf g) 8 0 ≡ g .parity
+  unfolding valuesOf
+  value-parity = getD-at (tabulate 8 (λ j. byteAt j (g .tracks))) (g .parity) [] 0 8 (length-tabulate 8 (λ j. byteAt j (g .tracks)))

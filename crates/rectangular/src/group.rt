@@ -1,16 +1,26 @@
 // One group of the nine-track code.
 use crate::contribution::contribution;
 ghost use mathlib.Core.Path.{_≡_};
-ghost use Prim.Native.Nat.{_≤_};
+ghost use Prim.Native.Nat.{_<_, _≤_};
 ghost use lib.ListN.{length};
 ghost use Rattle.rectangular.specs.Constants.{feedback};
 ghost use Rattle.rectangular.specs.Group as code;
-ghost use Rattle.rectangular.specs.Packed.{valuesOf, tracksOf, parityByte};
+ghost use Rattle.rectangular.specs.Packed.{byteAt, valuesOf, tracksOf, parityByte};
 
 // The track values of a group: tracks 0 to 7, track j in bits 8j to 8j + 7, and the parity track.
 pub struct Group {
     pub tracks: u64,
     pub parity: u8,
+}
+
+impl Group {
+    // Track byte j, of tracks 0 to 7.
+    pub fn track(self, j: usize) -> u8
+        requires { ⌜ j < 8 ⌝ }
+        ensures { λ r. ⌜ r ≡ byteAt j (self .tracks) ⌝ }
+    {
+        ((self.tracks >> (8 * j)) % 256) as u8
+    }
 }
 
 fn wide(byte: u8) -> usize

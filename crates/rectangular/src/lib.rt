@@ -15,6 +15,8 @@ impl Code6250 {
     pub const FEEDBACK: u8 = 57;
     // The first positive power of T that is the identity.
     pub const EXPONENT: usize = 17;
+    // A record's data are at most so many bytes.
+    pub const MOST_DATA: usize = 4101;
 
     // The register before any byte: all zeros.
     pub fn fresh() -> Code6250

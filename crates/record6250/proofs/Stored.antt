@@ -1,0 +1,52 @@
+-- One group more: what the words hold once a group is stored behind the others.
+-- Assumes nothing.
+use mathlib.Core.Path.{_≡_, sym, ap, ap₂, _∙_}
+use mathlib.Core.List.{List, _++_, map}
+use Prim.Native.Nat.{ℕ, _+_, _-_, _*_, _/_, _<_}
+use native.Mathlib.Nat.{mul-comm}
+use borrow.Rule.Slice.PartMut.{putMid}
+use lib.ListN.{length, take, drop}
+use lib.Seq.{getD-take}
+use Rattle.indexed.proofs.Blocks.{length-blocks, stored-more}
+use Rattle.indexed.proofs.Part.{part-to-end, part-back}
+use Rattle.group_code.specs.Code.{wordOf}
+use Rattle.rectangular.specs.Constants.{feedback}
+use Rattle.rectangular.specs.Group.{group}
+use Rattle.rectangular.proofs.Equations.{group-front}
+use Rattle.record6250.specs.Record.{body, groupsFor, groupBytes, groupWords, firstGroups, writtenRecord, groupsStored}
+use Rattle.record6250.proofs.Body.{full-group}
+use Rattle.record6250.proofs.Words.{length-groupWords}
+
+-- the group that is written from the part of the data that begins with it
+pub full-words : (bytes values : List ℕ) (g : ℕ) → g < length bytes / 7
+    → values ≡ group 8 feedback (take (length bytes - g * 7) (drop (g * 7) bytes)) → map wordOf values ≡ groupWords (groupBytes g (body bytes))
+unfolding groupWords
+full-words bytes values g h e =
+    let place : g * 7 ≡ 7 * g = mul-comm g 7 in
+    ap (map wordOf)
+    (e
+    ∙ ap (group 8 feedback) (part-to-end (g * 7) bytes ∙ ap (λ (n : ℕ). drop n bytes) place)
+    ∙ group-front 8 feedback (drop (7 * g) bytes) (take 7 (drop (7 * g) bytes)) (λ k b. sym (getD-take 7 (drop (7 * g) bytes) k 0 b))
+    ∙ ap (group 8 feedback) (sym (full-group bytes g h)))
+
+module _ (bytes output : List ℕ) (g : ℕ) where
+  pub one-more : (words part nine : List ℕ) → words ≡ groupsStored g bytes output → nine ≡ groupWords (groupBytes g (body bytes))
+      → part ≡ nine ++ drop 9 (take (length words - g * 9) (drop (g * 9) words))
+      → putMid (g * 9) (length words - g * 9) words part ≡ groupsStored (g + 1) bytes output
+  unfolding groupsStored firstGroups
+  one-more words part nine whole are lent =
+      let place : g * 9 ≡ 9 * g = mul-comm g 9 in
+      part-back (g * 9) words part
+      ∙ ap (λ (p : List ℕ). take (g * 9) words ++ p) (lent ∙ ap₂ (λ (w r : List ℕ). w ++ drop 9 r) are (part-to-end (g * 9) words))
+      ∙ ap₂ (λ (n : ℕ) (w : List ℕ). take n w ++ (groupWords (groupBytes g (body bytes)) ++ drop 9 (drop n w))) place whole
+      ∙ stored-more 9 g (λ g. groupWords (groupBytes g (body bytes))) output (λ k h. length-groupWords (groupBytes k (body bytes)))
+
+pub length-record : (bytes : List ℕ) → length (writtenRecord bytes) ≡ 9 * groupsFor (length bytes)
+unfolding writtenRecord firstGroups
+length-record bytes =
+    length-blocks 9 (groupsFor (length bytes)) _ (λ k h. length-groupWords (groupBytes k (body bytes)))
+
+-- all groups stored: the record in front, and behind it what was there
+pub all-stored : (bytes output : List ℕ) → groupsStored (groupsFor (length bytes)) bytes output ≡ writtenRecord bytes ++ drop (length (writtenRecord bytes)) output
+unfolding groupsStored writtenRecord
+all-stored bytes output = ap (λ (n : ℕ). writtenRecord bytes ++ drop n output) (sym (length-record bytes))

@@ -1,0 +1,45 @@
+-- The written 6250 record (document 01, "The 6250 record"; "written record" is that paper's term).
+-- Assumes nothing.
+use Prim.Native.Nat.{ℕ, _+_, _-_, _*_, _/_, _%_}
+use mathlib.Core.List.{List, [], _∷_, _++_, map}
+use lib.ListN.{length, take, drop, replicate}
+use Rattle.indexed.specs.List.{blocks}
+use Rattle.group_code.specs.Code.{wordOf}
+use Rattle.rectangular.specs.Constants.{feedback}
+use Rattle.rectangular.specs.Group.{group}
+
+-- the data are 0 to 4,101 bytes
+abbrev pub mostData : ℕ
+mostData = 4101
+
+-- p, from 0 to 6: how many zero bytes stand behind so many bytes of data
+unfoldable pub padding : ℕ → ℕ
+padding n = 6 - n % 7
+
+-- the data, p zero bytes, and one byte holding p: a multiple of 7
+unfoldable pub body : List ℕ → List ℕ
+body bytes = bytes ++ replicate (padding (length bytes)) 0 ++ (padding (length bytes) ∷ [])
+
+-- the number of groups for so many bytes of data
+unfoldable pub groupsFor : ℕ → ℕ
+groupsFor n = n / 7 + 1
+
+-- group g is cut from the body in order, its first byte being B7
+unfoldable pub groupBytes : ℕ → List ℕ → List ℕ
+groupBytes g bytes = take 7 (drop (7 * g) bytes)
+
+-- the nine words of a group, tracks 0 to 8
+unfoldable pub groupWords : List ℕ → List ℕ
+groupWords info = map wordOf (group 8 feedback info)
+
+-- the words of the record's first groups, group after group
+unfoldable pub firstGroups : ℕ → List ℕ → List ℕ
+firstGroups n bytes = blocks n (λ g. groupWords (groupBytes g (body bytes)))
+
+-- the words of the written record
+unfoldable pub writtenRecord : List ℕ → List ℕ
+writtenRecord bytes = firstGroups (groupsFor (length bytes)) bytes
+
+-- the output once the first groups are stored
+unfoldable pub groupsStored : ℕ → List ℕ → List ℕ → List ℕ
+groupsStored n bytes output = firstGroups n bytes ++ drop (9 * n) output
