@@ -11,7 +11,7 @@ use Rattle.indexed.proofs.First.{first-passes}
 use Rattle.group_code.specs.Code.{codes, codeOf, decoded, legal}
 
 pub decoded-code : (n : ℕ) → n < 16 → decoded (codeOf n) ≡ n
-unfolding decoded codeOf codes firstWhere
+unfolding decoded firstWhere
 decoded-code n h = eqb→eq _ _ (tested 16 (λ n. eqb (decoded (codeOf n)) n) tt n h)
 
 -- so two numbers of one code are one number
@@ -24,9 +24,8 @@ unfolding legal
 code-legal n h = lt-ltb (decoded (codeOf n)) 16 (rw (decoded-code n h) h)
 
 pub legal-is-code : (code : ℕ) → legal code ≡ true → codeOf (decoded code) ≡ code
-unfolding legal codeOf decoded codes
+unfolding legal decoded
 legal-is-code code e = eqb-true _ _ (first-passes (λ c. eqb c code) codes (ltb-true _ _ e))
 
 pub code-lt : (n : ℕ) → n < 16 → codeOf n < 32
-unfolding codeOf codes
 code-lt n h = ltb→lt _ _ (tested 16 (λ n. ltb (codeOf n) 32) tt n h)

@@ -9,10 +9,10 @@ use lib.ListN.{getD}
 use Rattle.indexed.specs.List.{firstWhere}
 
 -- the codes of 0 to 15
-unfoldable pub codes : List ℕ
+abbrev pub codes : List ℕ
 codes = 25 ∷ 27 ∷ 18 ∷ 19 ∷ 29 ∷ 21 ∷ 22 ∷ 23 ∷ 26 ∷ 9 ∷ 10 ∷ 11 ∷ 30 ∷ 13 ∷ 14 ∷ 15 ∷ []
 
-unfoldable pub codeOf : ℕ → ℕ
+abbrev pub codeOf : ℕ → ℕ
 codeOf n = getD codes n 0
 
 -- the number whose code this is, or 16 where it is the code of none
@@ -24,5 +24,5 @@ unfoldable pub legal : ℕ → Bool
 legal code = ltb (decoded code) 16
 
 -- a track byte's word: the code of its upper four bits in bits 9..5, that of its lower four in bits 4..0
-unfoldable pub wordOf : ℕ → ℕ
+abbrev pub wordOf : ℕ → ℕ
 wordOf byte = codeOf (byte / 16) * 32 + codeOf (byte % 16)

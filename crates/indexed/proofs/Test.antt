@@ -1,12 +1,12 @@
 -- From a test that was computed to the fact at each number.
 -- Assumes nothing.
-use mathlib.Core.Path.{subst}
+use mathlib.Core.Path.{_≡_, subst}
 use mathlib.Core.Bool.{Bool, true, false, _&&_}
 use Prim.Native.Nat.{ℕ, zero, suc, _<_}
 use native.Mathlib.Nat.{not-suc-le-zero}
 use native.Mathlib.Decide.{decLt}
 use native.Mathlib.Omega.{arith}
-use lib.Dec.{T}
+use lib.Dec.{T, eqb, eqb→eq}
 use Rattle.indexed.specs.Test.{allBelow}
 
 pub both-left : (a b : Bool) → T (a && b) → T a
@@ -24,3 +24,16 @@ tested (suc n) p t k h = go (tested n p (both-right (p n) (allBelow n p) t) k) (
     go : (k < n → T (p k)) → Dec (k < n) → T (p k)
     go ih (yes below) = ih below
     go ih (no above) = subst (λ (m : ℕ). T (p m)) (omega arith) (both-left (p n) (allBelow n p) t)
+
+-- two functions whose values are computed to be equal, of one number, of two and of three
+pub equal : (n : ℕ) (f g : ℕ → ℕ) → T (allBelow n (λ k. eqb (f k) (g k))) → (k : ℕ) → k < n → f k ≡ g k
+equal n f g t k h = eqb→eq (f k) (g k) (tested n (λ k. eqb (f k) (g k)) t k h)
+
+pub equal₂ : (m n : ℕ) (f g : ℕ → ℕ → ℕ) → T (allBelow m (λ i. allBelow n (λ k. eqb (f i k) (g i k))))
+    → (i k : ℕ) → i < m → k < n → f i k ≡ g i k
+equal₂ m n f g t i k hi hk = equal n (f i) (g i) (tested m (λ i. allBelow n (λ k. eqb (f i k) (g i k))) t i hi) k hk
+
+pub equal₃ : (l m n : ℕ) (f g : ℕ → ℕ → ℕ → ℕ) → T (allBelow l (λ h. allBelow m (λ i. allBelow n (λ k. eqb (f h i k) (g h i k)))))
+    → (h i k : ℕ) → h < l → i < m → k < n → f h i k ≡ g h i k
+equal₃ l m n f g t h i k hh hi hk =
+    equal₂ m n (f h) (g h) (tested l (λ h. allBelow m (λ i. allBelow n (λ k. eqb (f h i k) (g h i k)))) t h hh) i k hi hk

@@ -1,6 +1,6 @@
 -- The nine words of a group.
 -- Assumes nothing.
-use mathlib.Core.Path.{_≡_, ap, _∙_}
+use mathlib.Core.Path.{_≡_, _∙_}
 use mathlib.Core.List.{List, map}
 use Prim.Native.Nat.{ℕ, _<_}
 use native.Mathlib.Omega.{arith}
@@ -9,10 +9,10 @@ use Rattle.indexed.proofs.Map.{getD-map}
 use Rattle.group_code.specs.Code.{wordOf}
 use Rattle.rectangular.specs.Constants.{feedback}
 use Rattle.rectangular.specs.Group.{group}
-use Rattle.rectangular.specs.Packed.{byteAt, valuesOf}
+use Rattle.rectangular.specs.Packed.{valuesOf}
 use Rattle.rectangular.specs.declared.group.Group.{Group}
 use Rattle.rectangular.proofs.Equations.{length-group}
-use Rattle.rectangular.proofs.Packed.{length-values, value-low, value-parity}
+use Rattle.rectangular.proofs.Packed.{length-values}
 use Rattle.record6250.specs.Record.{groupWords}
 
 pub length-groupWords : (info : List ℕ) → length (groupWords info) ≡ 9
@@ -23,8 +23,5 @@ module _ (g : Group) where
   pub length-words : length (map wordOf (valuesOf g)) ≡ 9
   length-words = length-map (valuesOf g) wordOf ∙ length-values g
 
-  pub word-low : (j : ℕ) → j < 8 → getD (map wordOf (valuesOf g)) j 0 ≡ wordOf (byteAt j (g .tracks))
-  word-low j h = getD-map wordOf (valuesOf g) j 0 0 (omega (arith, length-values g)) ∙ ap wordOf (value-low g j h)
-
-  pub word-parity : getD (map wordOf (valuesOf g)) 8 0 ≡ wordOf (g .parity)
-  word-parity = getD-map wordOf (valuesOf g) 8 0 0 (omega (arith, length-values g)) ∙ ap wordOf (value-parity g)
+  pub word-at : (j : ℕ) → j < 9 → getD (map wordOf (valuesOf g)) j 0 ≡ wordOf (getD (valuesOf g) j 0)
+  word-at j h = getD-map wordOf (valuesOf g) j 0 0 (omega (arith, length-values g))

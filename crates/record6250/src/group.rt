@@ -13,9 +13,8 @@ pub(crate) fn store(words: &mut [u16], group: Group)
     ensures { λ _. ⌜ now (words .exit) ≡ map wordOf (valuesOf group) ++ drop 9 (now (words .entry)) ⌝ }
 {
     let mut j = 0;
-    while j < 8 {
-        words[j] = group_code::word(group.track(j));
+    while j < 9 {
+        words[j] = group_code::word(group.value(j));
         j += 1;
     }
-    words[8] = group_code::word(group.parity);
 }

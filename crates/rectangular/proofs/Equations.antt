@@ -71,7 +71,7 @@ module _ (w f : ℕ) (positive : 0 < w) (fits : f < 2 ^ w) where
       ap (λ (n : ℕ). xorSum n (λ i. shifts w f i (b i))) e ∙ sum-first (w - 1) (λ i. shifts w f i (b i))
 
   module _ (info : List ℕ) (below : Below w info) where
-    character-lt : (i : ℕ) → character w f info i < 2 ^ w
+    pub character-lt : (i : ℕ) → character w f info i < 2 ^ w
     unfolding character check information
     character-lt zero = sum-lt w (w - 1) _ (λ i h. shifts-lt w f (suc i) _ fits (below (w - 1 - suc i)))
     character-lt (suc i) = below (w - 1 - suc i)

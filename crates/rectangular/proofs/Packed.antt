@@ -1,35 +1,36 @@
--- The packed group is the group: the sum of contributions has the tracks' bits, and folding it gives the parity track.
+-- The packed group is the group: spread bits are the tracks' bits, the check character is reduced from its sum, and folding
+-- the tracks gives the parity track.
 -- Assumes nothing.
-use mathlib.Core.Path.{_≡_, sym, ap, ap₂, _∙_}
-use mathlib.Core.Bool.{Bool, true, false, cond}
+use mathlib.Core.Path.{_≡_, refl, sym, ap, ap₂, _∙_}
+use mathlib.Core.Bool.{Bool, cond}
 use mathlib.Core.List.{List, [], _∷_, _++_}
-use Prim.Native.Nat.{ℕ, zero, suc, _+_, _-_, _*_, _/_, _%_, _^_, _<_}
-use native.Mathlib.Nat.{div-one, mod-lt, zero-lt-suc}
-use native.Mathlib.Decide.{decLt}
-use native.Mathlib.Numerals.{add-one}
+use Prim.Native.Nat.{ℕ, suc, _+_, _-_, _*_, _/_, _%_, _^_, _<_}
+use native.Mathlib.Nat.{div-one, mod-lt, zero-lt-suc, lt-trans, lt-of-lt-of-le, mul-lt-mul-of-pos-right, mul-le-mul-left, div-lt-iff-lt-mul}
 use native.Mathlib.Omega.{arith}
 use borrow.Author.Tests.{eq-eqb, ne-eqb}
 use lib.Bits.{xor-comm, xor-shr, xor-mod}
-use lib.Dec.{eqb, eqb·suc-zero}
-use lib.ListN.{length, getD, length-append, List·getD-append, List·getD-eq-default}
+use lib.Dec.{eqb}
+use lib.ListN.{length, getD, length-append, List·getD-append}
 use lib.Seq.{getD-at}
-use lib.Pow.{shr-shr}
+use lib.Pow.{pow-pos, pow-mono, shr-shr}
 use Rattle.indexed.specs.List.{tabulate}
 use Rattle.indexed.proofs.Tabulate.{length-tabulate, getD-tabulate, tabulate-same, tabulate-last}
+use Rattle.indexed.proofs.Test.{equal, equal₂, equal₃}
 use Rattle.register.specs.Bit.{bit}
+use Rattle.register.specs.Shift.{shift, shifts}
 use Rattle.register.specs.Sum.{xorSum}
 use Rattle.register.specs.Xor.{_⊕_}
-use Rattle.register.specs.Shift.{shifts}
-use Rattle.register.proofs.Bit.{Digits, bit-lt, bit-shr, bit-mod}
-use Rattle.register.proofs.Expand.{bit-sum, bit-ofBits, bits-ext}
-use Rattle.register.proofs.Sum.{sum-ext, sum-one}
+use Rattle.register.proofs.Bit.{bit-shr, bit-mod}
+use Rattle.register.proofs.Expand.{bit-sum, bits-ext}
+use Rattle.register.proofs.Sum.{sum-ext, sum-lt, sum-one, sum-first, sum-last, sum-xor, sum-mod, sum-shr, shifts-sum}
 use Rattle.register.proofs.Xor.{xor-assoc, xor-left-comm}
-use Rattle.rectangular.specs.Constants.{feedback, timesPower}
+use Rattle.tables.specs.Rule.{spreadOf, reducedOf}
+use Rattle.rectangular.specs.Constants.{feedback}
 use Rattle.rectangular.specs.Group.{information, check, character, column, track, group}
-use Rattle.rectangular.specs.Packed.{byteAt, valuesOf, contribution, tracksOf, parityByte}
+use Rattle.rectangular.specs.Packed.{byteAt, valuesOf, sumOf, tracksTo, parityByte}
 use Rattle.rectangular.specs.declared.group.Group.{Group}
 use Rattle.rectangular.proofs.Symmetry.{column-lt, bit-column}
-use Rattle.rectangular.proofs.Equations.{track-low, track-parity}
+use Rattle.rectangular.proofs.Equations.{Below, character-lt, track-low, track-parity}
 
 -- ---- folding
 
@@ -46,7 +47,7 @@ fold s t a =
     ∙ ap (λ (x : ℕ). a / 2 ^ s % 2 ^ 8 ⊕ x % 2 ^ 8) (shr-shr a t s)
 
 regroup : (a b c d e f g h : ℕ) → ((a ⊕ e) ⊕ (c ⊕ g)) ⊕ ((b ⊕ f) ⊕ (d ⊕ h)) ≡ a ⊕ b ⊕ c ⊕ d ⊕ e ⊕ f ⊕ g ⊕ h
-regroup a b c d e f g h = simp (xor-assoc, xor-comm, xor-left-comm)
+regroup a b c d e f g h = simp (xor-assoc, xor-left-comm)
 
 -- two halves, four quarters, eight bytes
 pub folded : (x : ℕ)
@@ -62,87 +63,107 @@ folded x =
 
 -- ---- the bits of the tracks
 
--- the bit that byte b as B_i adds to bit r of track j
-share : ℕ → ℕ → ℕ → ℕ → ℕ
-share i b j r = cond (eqb r 0) (bit j (timesPower i b)) (cond (eqb r i) (bit j b) 0)
+-- a byte that is spread and shifted up by i has its bits in bit i of each byte: a test of every byte, i and bit
+spread-at : (i b m : ℕ) → i < 8 → b < 256 → m < 64 → bit m (spreadOf b * 2 ^ i) ≡ cond (eqb (m % 8) i) (bit (m / 8) b) 0
+unfolding bit
+spread-at =
+    equal₃ 8 256 64 (λ i b m. bit m (spreadOf b * 2 ^ i)) (λ i b m. cond (eqb (m % 8) i) (bit (m / 8) b) 0) tt
 
-share-lt : (i b j r : ℕ) → share i b j r < 2
-unfolding share
-share-lt i b j r = by (eqb r 0) (eqb r i)
-  where
-    by : (s t : Bool) → cond s (bit j (timesPower i b)) (cond t (bit j b) 0) < 2
-    by true t = bit-lt j (timesPower i b)
-    by false true = bit-lt j b
-    by false false = zero-lt-suc 1
-
-share-high : (i b j r : ℕ) → share i b j (suc r) ≡ cond (eqb (suc r) i) (bit j b) 0
-unfolding share
-share-high i b j r = ap (λ (t : Bool). cond t (bit j (timesPower i b)) (cond (eqb (suc r) i) (bit j b) 0)) (eqb·suc-zero r)
-
-contribution-digits : (i b : ℕ) → Digits (tabulate 64 (λ m. share i b (m / 8) (m % 8)))
-contribution-digits i b k = by (decLt k 64)
-  where
-    bits : ℕ → ℕ
-    bits m = share i b (m / 8) (m % 8)
-
-    by : Dec (k < 64) → getD (tabulate 64 bits) k 0 < 2
-    by (yes h) = rw (getD-tabulate 64 bits k 0 h) (share-lt i b (k / 8) (k % 8))
-    by (no h) = rw (List·getD-eq-default (tabulate 64 bits) 0 {n = k} (omega (arith, length-tabulate 64 bits))) (zero-lt-suc 1)
-
-contribution-bit : (i b j r : ℕ) → j < 8 → r < 8 → bit (8 * j + r) (contribution i b) ≡ share i b j r
-unfolding contribution share
-contribution-bit i b j r hj hr =
+spread-bit : (i b j r : ℕ) → i < 8 → b < 256 → j < 8 → r < 8 → bit (8 * j + r) (spreadOf b * 2 ^ i) ≡ cond (eqb r i) (bit j b) 0
+spread-bit i b j r hi hb hj hr =
     let row : (8 * j + r) / 8 ≡ j = omega arith in
     let column : (8 * j + r) % 8 ≡ r = omega arith in
-    bit-ofBits (8 * j + r) (tabulate 64 (λ m. share i b (m / 8) (m % 8))) (omega (arith, length-tabulate 64 (λ m. share i b (m / 8) (m % 8)))) (contribution-digits i b)
-    ∙ getD-tabulate 64 (λ m. share i b (m / 8) (m % 8)) (8 * j + r) 0 (omega arith)
-    ∙ ap₂ (share i b) row column
+    spread-at i b (8 * j + r) hi hb (omega arith) ∙ ap₂ (λ (s k : ℕ). cond (eqb s i) (bit k b) 0) column row
 
-module _ (info : List ℕ) where
-  -- bit r of track j: the sum of the shares
-  tracks-bit : (j r : ℕ) → j < 8 → r < 8 → bit (8 * j + r) (tracksOf info) ≡ xorSum 7 (λ i. share (i + 1) (getD info (6 - i) 0) j r)
-  unfolding tracksOf
-  tracks-bit j r hj hr =
-      bit-sum (8 * j + r) 7 _ ∙ sum-ext 7 _ _ (λ i h. contribution-bit (i + 1) (getD info (6 - i) 0) j r hj hr)
+-- the shifts of a loop's turn lose no bit
+pub spread-fits : (i b : ℕ) → i < 8 → b < 256 → spreadOf b * 2 ^ i % 2 ^ 64 ≡ spreadOf b * 2 ^ i
+spread-fits = equal₂ 8 256 (λ i b. spreadOf b * 2 ^ i % 2 ^ 64) (λ i b. spreadOf b * 2 ^ i) tt
 
-  byte-of : (i : ℕ) → i < 7 → getD info (6 - i) 0 ≡ information 8 info (suc i)
-  unfolding information
-  byte-of i h = let e : 6 - i ≡ 7 - suc i = omega arith in ap (λ (k : ℕ). getD info k 0) e
+pub byte-fits : (i b : ℕ) → i < 8 → b < 256 → b * 2 ^ i % 65536 ≡ b * 2 ^ i
+byte-fits = equal₂ 8 256 (λ i b. b * 2 ^ i % 65536) (λ i b. b * 2 ^ i) tt
 
-  -- bit 0: all shares are in the check character
-  low : (j : ℕ) → xorSum 7 (λ i. share (i + 1) (getD info (6 - i) 0) j 0) ≡ bit j (check 8 feedback info)
-  unfolding share check timesPower
-  low j =
-      sum-ext 7 _ _ (λ i h. ap₂ (λ (n b : ℕ). bit j (shifts 8 feedback n b)) (add-one i) (byte-of i h))
-      ∙ sym (bit-sum j 7 (λ i. shifts 8 feedback (suc i) (information 8 info (suc i))))
+-- ---- sums over B_1 to B_7, and then B_0
 
-  -- bit r above 0: the one share of B_r
-  high : (j r : ℕ) → suc r < 8 → xorSum 7 (λ i. share (i + 1) (getD info (6 - i) 0) j (suc r)) ≡ bit j (information 8 info (suc r))
-  high j r h =
-      sum-ext 7 _ (λ i. cond (eqb (suc r) (i + 1)) (bit j (getD info (6 - i) 0)) 0) (λ i b. share-high (i + 1) (getD info (6 - i) 0) j r)
-      ∙ sum-one 7 _ r (omega arith) others
-      ∙ ap (λ (t : Bool). cond t (bit j (getD info (6 - r) 0)) 0) (eq-eqb (suc r) (r + 1) (sym (add-one r)))
-      ∙ ap (bit j) (byte-of r (omega arith))
-    where
-      others : (k : ℕ) → k < 7 → (k ≡ r → ⊥) → cond (eqb (suc r) (k + 1)) (bit j (getD info (6 - k) 0)) 0 ≡ 0
-      others k b ne = ap (λ (t : Bool). cond t (bit j (getD info (6 - k) 0)) 0) (ne-eqb (suc r) (k + 1) (λ e. ne (omega arith)))
+next : (k : ℕ) → k < 7 → (k + 1) % 8 ≡ suc k
+next k h = omega arith
 
-  tracks-character : (j r : ℕ) → j < 8 → r < 8 → bit (8 * j + r) (tracksOf info) ≡ bit j (character 8 feedback info r)
-  unfolding character
-  tracks-character j zero hj hr = tracks-bit j 0 hj hr ∙ low j
-  tracks-character j (suc r) hj hr = tracks-bit j (suc r) hj hr ∙ high j r hr
+-- the first seven terms, and all eight
+pub first-seven : (g : ℕ → ℕ) → xorSum 7 (λ k. g ((k + 1) % 8)) ≡ xorSum 7 (λ k. g (suc k))
+first-seven g = sum-ext 7 _ _ (λ k h. ap g (next k h))
+
+pub all-eight : (g : ℕ → ℕ) → xorSum 8 (λ k. g ((k + 1) % 8)) ≡ xorSum 8 g
+all-eight g =
+    sum-last 7 (λ k. g ((k + 1) % 8))
+    ∙ ap (λ (x : ℕ). x ⊕ g 0) (first-seven g)
+    ∙ xor-comm (xorSum 7 (λ k. g (suc k))) (g 0)
+    ∙ sym (sum-first 7 g)
+
+-- ---- the check character, from its sum
+
+-- a term T^i b: the lowest eight bits of X^i b, and what the others leave
+term : (i b : ℕ) → i < 7 → b < 256 → shifts 8 feedback (suc i) b ≡ (b * 2 ^ suc i % 256) ⊕ reducedOf (b * 2 ^ suc i / 256)
+unfolding shift shifts
+term =
+    equal₂ 7 256 (λ i b. shifts 8 feedback (suc i) b) (λ i b. (b * 2 ^ suc i % 256) ⊕ reducedOf (b * 2 ^ suc i / 256)) tt
+
+-- what is left of h X^8 is T^8 h, so it is linear
+reduced-power : (h : ℕ) → h < 128 → reducedOf h ≡ shifts 8 feedback 8 h
+unfolding shift shifts
+reduced-power = equal 128 reducedOf (shifts 8 feedback 8) tt
+
+module _ (info : List ℕ) (below : Below 8 info) where
+  -- X^i B_i, and the part of it above its lowest eight bits
+  product : ℕ → ℕ
+  product i = information 8 info (suc i) * 2 ^ suc i
+
+  high : ℕ → ℕ
+  high i = product i / 256
+
+  high-lt : (i : ℕ) → i < 7 → high i < 2 ^ 7
+  unfolding high product information
+  high-lt i h =
+      div-lt-iff-lt-mul (zero-lt-suc 255) .1
+      (lt-of-lt-of-le (mul-lt-mul-of-pos-right (below (8 - 1 - suc i)) (pow-pos (suc i))) (mul-le-mul-left 256 (pow-mono {j = 7} (omega arith))))
+
+  sum-high : xorSum 7 (λ i. reducedOf (high i)) ≡ reducedOf (xorSum 7 product / 256)
+  unfolding high
+  sum-high =
+      sum-ext 7 _ _ (λ i h. reduced-power (high i) (high-lt i h))
+      ∙ sym (shifts-sum 8 feedback 8 7 high (omega arith) (λ i h. lt-trans (high-lt i h) (omega arith)))
+      ∙ sym (reduced-power (xorSum 7 high) (sum-lt 7 7 high high-lt))
+      ∙ ap reducedOf (sym (sum-shr 8 7 product))
+
+  -- the sum of the first seven, reduced, is the check character
+  pub check-reduced : (sumOf 7 info % 256) ⊕ reducedOf (sumOf 7 info / 256) ≡ character 8 feedback info 0
+  unfolding sumOf character check information high product
+  check-reduced =
+      ap (λ (u : ℕ). (u % 256) ⊕ reducedOf (u / 256)) (first-seven (λ i. character 8 feedback info i * 2 ^ i))
+      ∙ ap₂ _⊕_ (sum-mod 8 7 product) (sym sum-high)
+      ∙ sym (sum-xor 7 (λ i. product i % 256) (λ i. reducedOf (high i)))
+      ∙ sym (sum-ext 7 _ _ (λ i h. term i (information 8 info (suc i)) h (below (8 - 1 - suc i))))
+
+  -- bit r of track j is bit j of B_r
+  tracks-character : (j r : ℕ) → j < 8 → r < 8 → bit (8 * j + r) (tracksTo 8 info) ≡ bit j (character 8 feedback info r)
+  unfolding tracksTo
+  tracks-character j r hj hr =
+      ap (bit (8 * j + r)) (all-eight (λ i. spreadOf (character 8 feedback info i) * 2 ^ i))
+      ∙ bit-sum (8 * j + r) 8 (λ i. spreadOf (character 8 feedback info i) * 2 ^ i)
+      ∙ sum-ext 8 _ (λ i. cond (eqb r i) (bit j (character 8 feedback info i)) 0)
+      (λ i h. spread-bit i (character 8 feedback info i) j r h (character-lt 8 feedback (omega arith) (omega arith) info below i) hj hr)
+      ∙ sum-one 8 _ r hr (λ k h ne. ap (λ (t : Bool). cond t (bit j (character 8 feedback info k)) 0) (ne-eqb r k (λ e. ne (sym e))))
+      ∙ ap (λ (t : Bool). cond t (bit j (character 8 feedback info r)) 0) (eq-eqb r r refl)
 
   -- so its bytes are the tracks
-  pub byte-is-column : (j : ℕ) → j < 8 → byteAt j (tracksOf info) ≡ column 8 (character 8 feedback info) j
+  pub byte-is-column : (j : ℕ) → j < 8 → byteAt j (tracksTo 8 info) ≡ column 8 (character 8 feedback info) j
   unfolding byteAt
   byte-is-column j h =
-      bits-ext 8 _ _ (mod-lt (tracksOf info / 2 ^ (8 * j)) (zero-lt-suc 255)) (column-lt 8 (character 8 feedback info) j)
-      (λ r b. bit-mod r 8 (tracksOf info / 2 ^ (8 * j)) b
-      ∙ bit-shr r (8 * j) (tracksOf info)
+      bits-ext 8 _ _ (mod-lt (tracksTo 8 info / 2 ^ (8 * j)) (zero-lt-suc 255)) (column-lt 8 (character 8 feedback info) j)
+      (λ r b. bit-mod r 8 (tracksTo 8 info / 2 ^ (8 * j)) b
+      ∙ bit-shr r (8 * j) (tracksTo 8 info)
       ∙ tracks-character j r h b
       ∙ sym (bit-column 8 (character 8 feedback info) r j b))
 
-  pub packed-is-group : tabulate 8 (λ j. byteAt j (tracksOf info)) ++ (parityByte (tracksOf info) ∷ []) ≡ group 8 feedback info
+  pub packed-is-group : tabulate 8 (λ j. byteAt j (tracksTo 8 info)) ++ (parityByte (tracksTo 8 info) ∷ []) ≡ group 8 feedback info
   unfolding group parityByte
   packed-is-group =
       ap₂ (λ (l : List ℕ) (p : ℕ). l ++ (p ∷ []))

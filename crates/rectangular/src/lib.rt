@@ -1,5 +1,4 @@
 // The rectangular code of document 000: its constants, its register, and its groups.
-mod contribution;
 pub mod group;
 
 ghost use mathlib.Core.Path.{_≡_};

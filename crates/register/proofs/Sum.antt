@@ -2,12 +2,12 @@
 -- one or two are zero the sum is those.
 -- Assumes nothing.
 use mathlib.Core.Path.{_≡_, refl, sym, ap, ap₂, _∙_}
-use Prim.Native.Nat.{ℕ, zero, suc, _^_, _<_}
-use native.Mathlib.Nat.{le-refl, lt-irrefl, not-suc-le-zero}
+use Prim.Native.Nat.{ℕ, zero, suc, _/_, _%_, _^_, _<_}
+use native.Mathlib.Nat.{le-refl, lt-irrefl, not-suc-le-zero, mod-eq-of-lt, div-eq-of-lt}
 use native.Mathlib.Decide.{ℕ-discrete}
 use native.Mathlib.Omega.{arith}
 use lib.Pow.{pow-pos}
-use lib.Bits.{xor-lt, xor-zero-r}
+use lib.Bits.{xor-lt, xor-zero-r, xor-shr, xor-mod}
 use Rattle.register.specs.Xor.{_⊕_}
 use Rattle.register.specs.Shift.{shifts}
 use Rattle.register.specs.Sum.{xorSum}
@@ -44,6 +44,17 @@ shifts-sum w f k zero g hf h = shifts-zero w f k
 shifts-sum w f k (suc n) g hf h =
     shifts-xor w f k (xorSum n g) (g n) hf (sum-lt w n g (λ i b. h i (omega arith))) (h n (le-refl (suc n)))
     ∙ ap (λ (x : ℕ). x ⊕ shifts w f k (g n)) (shifts-sum w f k n g hf (λ i b. h i (omega arith)))
+
+-- the lowest bits of a sum, and the others
+pub sum-mod : (k n : ℕ) (g : ℕ → ℕ) → xorSum n g % 2 ^ k ≡ xorSum n (λ i. g i % 2 ^ k)
+unfolding xorSum
+sum-mod k zero g = mod-eq-of-lt (pow-pos k)
+sum-mod k (suc n) g = xor-mod (xorSum n g) (g n) k ∙ ap (λ (x : ℕ). x ⊕ (g n % 2 ^ k)) (sum-mod k n g)
+
+pub sum-shr : (k n : ℕ) (g : ℕ → ℕ) → xorSum n g / 2 ^ k ≡ xorSum n (λ i. g i / 2 ^ k)
+unfolding xorSum
+sum-shr k zero g = div-eq-of-lt (pow-pos k)
+sum-shr k (suc n) g = xor-shr (xorSum n g) (g n) k ∙ ap (λ (x : ℕ). x ⊕ (g n / 2 ^ k)) (sum-shr k n g)
 
 -- ---- a sum of sums, in the other order
 

@@ -10,22 +10,22 @@ use lib.ListN.{length, set, length-set}
 use Rattle.indexed.proofs.Front.{front, front-more, front-all}
 use Rattle.group_code.specs.Code.{wordOf}
 use Rattle.rectangular.specs.Packed.{valuesOf}
-use Rattle.record6250.proofs.Words.{length-words, word-low, word-parity}
+use Rattle.record6250.proofs.Words.{length-words, word-at}
 use Rattle.record6250.proofs.group.store.Statement.{statement}
 use Rattle.record6250.proofs.group.store.Tie as tie
 
 abbrev Inv-loop : tie.InvT-loop
 Inv-loop words₀ group j₀ words j =
-    (j ≤ 8) × (length words ≡ length words₀) × (words ≡ front j (map wordOf (valuesOf group)) words₀)
+    (j ≤ 9) × (length words ≡ length words₀) × (words ≡ front j (map wordOf (valuesOf group)) words₀)
 
 abbrev μ-loop : tie.MeasureT-loop
-μ-loop words₀ group j₀ words j = 8 - j
+μ-loop words₀ group j₀ words j = 9 - j
 
 loop-holds : tie.Need-loop-holds Inv-loop μ-loop
 loop-holds c = (search needs, refl, refl)
 
-track-requires : tie.Need-track-requires Inv-loop μ-loop
-track-requires c κs = search needs
+value-requires : tie.Need-value-requires Inv-loop μ-loop
+value-requires c κs = search needs
 
 word-requires : tie.Need-word-requires Inv-loop μ-loop
 word-requires c κs = search needs
@@ -50,29 +50,21 @@ loop-again c =
       search needs,
       length-set (at .words) (at .j) _ ∙ at .inv .1,
       ap₂ (λ (l : List ℕ) (w : ℕ). set l (at .j) w) (at .inv .2)
-          (c .word .ensures ∙ ap wordOf (c .before .track .ensures) ∙ sym (word-low (args .group) (at .j) (c .before .before .loop-test .taken)))
+          (c .word .ensures ∙ ap wordOf (c .before .value .ensures) ∙ sym (word-at (args .group) (at .j) (c .before .before .loop-test .taken)))
           ∙ front-more (at .j) result (now (args .words)) 0 (omega (arith, length-words (args .group))) (omega arith),
     )
 
-word-requires-2 : tie.Need-word-requires-2 Inv-loop μ-loop
-word-requires-2 c κs = search needs
-
-slice-write-words-2 : tie.Need-slice-write-words-2 Inv-loop μ-loop
-slice-write-words-2 c = search needs
-
 same-length : tie.Need-same-length Inv-loop μ-loop
-same-length c = length-set (c .before .before .loop .words) 8 _ ∙ c .before .before .loop .inv .1
+same-length c = c .before .loop .inv .1
 
 returns : tie.Need-returns Inv-loop μ-loop
 returns c =
-    let at = c .before .before .loop in
-    let args = c .before .before .before .before .args in
+    let at = c .before .loop in
+    let args = c .before .before .before .args in
     let result : List ℕ = map wordOf (valuesOf (args .group)) in
-    let eight : at .j ≡ 8 = omega arith in
-    ap₂ (λ (l : List ℕ) (w : ℕ). set l 8 w)
-    (at .inv .2 ∙ ap (λ (k : ℕ). front k result (now (args .words))) eight)
-    (c .word2 .ensures ∙ sym (word-parity (args .group)))
-    ∙ front-more 8 result (now (args .words)) 0 (omega (arith, length-words (args .group))) (omega arith)
+    let all : at .j ≡ 9 = omega arith in
+    at .inv .2
+    ∙ ap (λ (k : ℕ). front k result (now (args .words))) all
     ∙ front-all 9 result (now (args .words)) (sym (length-words (args .group)))
 
 pub store-spec : {M : Type 1} → statement M
@@ -82,14 +74,12 @@ store-spec =
     Inv-loop
     μ-loop
     loop-holds
-    track-requires
+    value-requires
     word-requires
     mul-words
     slice-write-words
     add-j
     loop-less
     loop-again
-    word-requires-2
-    slice-write-words-2
     same-length
     returns)

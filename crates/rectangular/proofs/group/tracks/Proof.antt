@@ -1,80 +1,85 @@
--- `rectangular::group::tracks` meets its contract. The loop's invariant: the contributions of B_1 to B_i are added.
+-- `rectangular::group::tracks` meets its contract. The loop's invariant: the first `k` terms of both sums are added.
 -- Assumes nothing.
 use mathlib.Core.Path.{_≡_, refl, sym, ap, ap₂, _∙_}
-use Prim.Native.Nat.{ℕ, _+_, _-_, _*_, _/_, _%_, _≤_, _<_}
+use Prim.Native.Nat.{ℕ, _+_, _-_, _*_, _%_, _^_, _≤_}
 use native.Mathlib.Numerals.{add-one}
 use native.Mathlib.Omega.{arith}
 use borrow.Author.Needs.{needs}
 use denote.Ref.{now}
-use lib.ListN.{getD}
 use Rattle.register.specs.Sum.{xorSum}
 use Rattle.register.specs.Xor.{_⊕_}
 use Rattle.register.proofs.Sum.{sum-last}
-use Rattle.rectangular.specs.Packed.{contribution, contributionAt, tracksOf}
+use Rattle.tables.specs.Rule.{spreadOf}
+use Rattle.tables.proofs.Rule.{value-at}
+use Rattle.rectangular.specs.Constants.{feedback}
+use Rattle.rectangular.specs.Group.{character}
+use Rattle.rectangular.specs.Packed.{sumOf, tracksTo}
+use Rattle.rectangular.proofs.Packed.{spread-fits, byte-fits}
 use Rattle.rectangular.proofs.group.tracks.Statement.{statement}
 use Rattle.rectangular.proofs.group.tracks.Tie as tie
 
--- the entry that a byte as B_(i + 1) has in the table
-at-entry : (i b byte : ℕ) → b ≡ byte → byte < 256 → contributionAt (i * 256 + b) ≡ contribution (i + 1) byte
-unfolding contributionAt
-at-entry i b byte e h =
-    let character : (i * 256 + b) / 256 + 1 ≡ i + 1 = omega arith in
-    let low : (i * 256 + b) % 256 ≡ byte = omega arith in
-    ap₂ contribution character low
+-- one term more
+more : (k : ℕ) (g : ℕ → ℕ) (sum x : ℕ) → sum ≡ xorSum k g → x ≡ g k → sum ⊕ x ≡ xorSum (k + 1) g
+more k g sum x e t = ap₂ _⊕_ e t ∙ sym (sum-last k g) ∙ ap (λ (n : ℕ). xorSum n g) (sym (add-one k))
 
 abbrev Inv-loop : tie.InvT-loop
-Inv-loop info sum₀ i₀ sum i = (i ≤ 7) × (sum ≡ xorSum i (λ i. contribution (i + 1) (getD info (6 - i) 0)))
+Inv-loop info tracks₀ sum₀ k₀ tracks sum k = (k ≤ 8) × (tracks ≡ tracksTo k info) × (sum ≡ sumOf k info)
 
 abbrev μ-loop : tie.MeasureT-loop
-μ-loop info sum₀ i₀ sum i = 7 - i
+μ-loop info tracks₀ sum₀ k₀ tracks sum k = 8 - k
 
 loop-holds : tie.Need-loop-holds Inv-loop μ-loop
-unfolding xorSum
-loop-holds c = (search needs, refl)
+unfolding sumOf tracksTo xorSum
+loop-holds c = (search needs, refl, refl)
 
-mul-contribution : tie.Need-mul-contribution Inv-loop μ-loop
-mul-contribution c = search needs
+character-requires : tie.Need-character-requires Inv-loop μ-loop
+character-requires c κs = (search needs, search needs, c .before .loop .inv .2)
 
-sub-wide : tie.Need-sub-wide Inv-loop μ-loop
-sub-wide c = search needs
+add-power : tie.Need-add-power Inv-loop μ-loop
+add-power c = search needs
 
-shared-slice-read-wide : tie.Need-shared-slice-read-wide Inv-loop μ-loop
-shared-slice-read-wide c = search needs
+spread-bits-requires : tie.Need-spread-bits-requires Inv-loop μ-loop
+spread-bits-requires c κs = search needs
 
-wide-requires : tie.Need-wide-requires Inv-loop μ-loop
-wide-requires c κs = search needs
+shl-tracks : tie.Need-shl-tracks Inv-loop μ-loop
+shl-tracks c = search needs
 
-add-contribution : tie.Need-add-contribution Inv-loop μ-loop
-add-contribution c = omega (arith, c .before .shared-slice-known2 .given (6 - c .before .before .before .loop .i))
+cast-sum : tie.Need-cast-sum Inv-loop μ-loop
+cast-sum c = search needs
 
-contribution-requires : tie.Need-contribution-requires Inv-loop μ-loop
-contribution-requires c κs = omega (arith, c .before .shared-slice-known2 .given (6 - c .before .before .before .loop .i))
+cast-sum-2 : tie.Need-cast-sum-2 Inv-loop μ-loop
+cast-sum-2 c = search needs
 
-add-i : tie.Need-add-i Inv-loop μ-loop
-add-i c = search needs
+shl-sum : tie.Need-shl-sum Inv-loop μ-loop
+shl-sum c = search needs
+
+add-k : tie.Need-add-k Inv-loop μ-loop
+add-k c = search needs
 
 loop-less : tie.Need-loop-less Inv-loop μ-loop
 loop-less c = search needs
 
 loop-again : tie.Need-loop-again Inv-loop μ-loop
+unfolding sumOf tracksTo
 loop-again c =
-    let at = c .before .before .before .before .loop in
-    let info = now (c .before .before .before .before .before .before .args .info) in
-    let share : ℕ → ℕ = λ i. contribution (i + 1) (getD info (6 - i) 0) in
-    let byte = c .before .before .shared-slice-known2 .given (6 - at .i) in (
+    let at = c .before .before .before .loop in
+    let info = now (c .before .before .before .before .before .args .info) in
+    let byte = c .before .character in
+    let power : ℕ = (at .k + 1) % 8 in (
       search needs,
-      ap₂ _⊕_ (at .inv .1) (c .contribution .ensures ∙ at-entry (at .i) _ _ (c .before .wide .ensures) (byte .fits))
-          ∙ sym (sum-last (at .i) share)
-          ∙ ap (λ (n : ℕ). xorSum n share) (sym (add-one (at .i))),
+      more (at .k) (λ k. spreadOf (character 8 feedback info ((k + 1) % 8)) * 2 ^ ((k + 1) % 8)) _ _ (at .inv .1)
+          (ap (λ (x : ℕ). x * 2 ^ power % 2 ^ 64) (c .spread-bits .ensures ∙ value-at spreadOf (byte .result))
+          ∙ spread-fits power (byte .result) (omega arith) (search needs)
+          ∙ ap (λ (b : ℕ). spreadOf b * 2 ^ power) (byte .ensures)),
+      more (at .k) (λ k. character 8 feedback info ((k + 1) % 8) * 2 ^ ((k + 1) % 8)) _ _ (at .inv .2)
+          (byte-fits power (byte .result) (omega arith) (search needs) ∙ ap (λ (b : ℕ). b * 2 ^ power) (byte .ensures)),
     )
 
 returns : tie.Need-returns Inv-loop μ-loop
-unfolding tracksOf
 returns c =
     let at = c .before .loop in
-    let info = now (c .before .before .before .args .info) in
-    let all : at .i ≡ 7 = omega arith in
-    at .inv .1 ∙ ap (λ (n : ℕ). xorSum n (λ i. contribution (i + 1) (getD info (6 - i) 0))) all
+    let all : at .k ≡ 8 = omega arith in
+    at .inv .1 ∙ ap (λ (k : ℕ). tracksTo k (now (c .before .before .before .args .info))) all
 
 pub tracks-spec : {M : Type 1} → statement M
 tracks-spec =
@@ -83,13 +88,14 @@ tracks-spec =
     Inv-loop
     μ-loop
     loop-holds
-    mul-contribution
-    sub-wide
-    shared-slice-read-wide
-    wide-requires
-    add-contribution
-    contribution-requires
-    add-i
+    character-requires
+    add-power
+    spread-bits-requires
+    shl-tracks
+    cast-sum
+    cast-sum-2
+    shl-sum
+    add-k
     loop-less
     loop-again
     returns)

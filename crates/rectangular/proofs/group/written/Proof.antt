@@ -21,8 +21,9 @@ returns : tie.Need-returns
 unfolding valuesOf
 returns c =
     let found = c .before .tracks in
+    let info = now (c .before .before .before .args .info) in
     ap₂ (λ (t p : ℕ). tabulate 8 (λ j. byteAt j t) ++ (p ∷ [])) (found .ensures) (c .parity .ensures ∙ ap parityByte (found .ensures))
-    ∙ packed-is-group (now (c .before .before .before .args .info))
+    ∙ packed-is-group info (λ k. c .before .before .shared-slice-known .given k .fits)
 
 pub written-spec : {M : Type 1} → statement M
 written-spec = tie.close (tie.spec tracks-requires parity-requires returns)
