@@ -3,6 +3,7 @@
 extern "C" {
     fn rindthok_words_to_physical(source: *const u16, sources: usize, target: *mut u16, targets: usize, place: *mut usize) -> u16;
     fn rindthok_words_to_algebraic(source: *const u16, sources: usize, target: *mut u16, targets: usize, place: *mut usize) -> u16;
+    fn rindthok_write6250(bytes: *const u8, count: usize, words: *mut u16, space: usize, groups: *mut usize, place: *mut usize) -> u16;
     fn rindthok_map_to_physical(map: u16, moved: *mut u16, place: *mut usize) -> u16;
     fn rindthok_map_to_algebraic(map: u16, moved: *mut u16, place: *mut usize) -> u16;
 }
@@ -39,6 +40,16 @@ pub fn map(toward: Toward, map: u16, moved: &mut u16) -> Answer {
     let status = unsafe { call(map, moved, &mut place) };
     answer(status, place, || vec![u64::from(*moved)])
 }
+
+pub fn write6250(bytes: &[u8], words: &mut [u16]) -> Answer {
+    let (mut groups, mut place) = (KEPT, usize::MAX);
+    let status = unsafe { rindthok_write6250(bytes.as_ptr(), bytes.len(), words.as_mut_ptr(), words.len(), &mut groups, &mut place) };
+    assert!(status == 0 || groups == KEPT, "a refusal stores no value");
+    answer(status, place, || vec![groups as u64])
+}
+
+/// What lies in a number before a call that may store a value there.
+const KEPT: usize = 0x5A5A;
 
 fn answer(status: u16, place: usize, values: impl Fn() -> Vec<u64>) -> Answer {
     match status {

@@ -3,6 +3,7 @@
 
 mod head_order;
 mod library;
+mod record6250;
 mod vectors;
 
 use library::Toward;
@@ -79,9 +80,67 @@ fn random_words(toward: Toward) -> Tried {
     tried
 }
 
+/// Lengths that matter: short ones, every remainder by 7, and the limits.
+fn random_length(seeded: &mut Seeded, case: usize) -> usize {
+    match case % 16 {
+        0 => 4095 + seeded.below(9) as usize,
+        1..=3 => seeded.below(700) as usize,
+        _ => seeded.below(40) as usize,
+    }
+}
+
+fn random_writes() -> Tried {
+    let mut seeded = Seeded(6250);
+    let mut tried = Tried { cases: 0, wrong: vec![] };
+    for case in 0..200_000 {
+        tried.cases += 1;
+        let count = random_length(&mut seeded, case);
+        let bytes: Vec<u8> = (0..count).map(|_| seeded.next() as u8).collect();
+        let needed = 9 * (count / 7 + 1);
+        let space = if case % 8 == 5 { seeded.below(needed as u64) as usize } else { needed + seeded.below(12) as usize };
+        let mut words = vec![LENT; space];
+        let mut after = vec![LENT; space];
+        let got = library::write6250(&bytes, &mut words);
+        let want = record6250::write(&bytes, &mut after);
+        if got != want || words != after {
+            tried.wrong.push(format!("write {count} bytes into {space} words: {got:?} for {want:?}"));
+        }
+    }
+    tried
+}
+
+/// The listing program on data of the lengths that matter.
+fn listing() -> Tried {
+    use std::io::Write;
+    use std::process::{Command, Stdio};
+    let program = concat!(env!("CARGO_MANIFEST_DIR"), "/../../target/bin/listing");
+    let mut seeded = Seeded(1);
+    let mut tried = Tried { cases: 0, wrong: vec![] };
+    for length in [0, 1, 6, 7, 8, 13, 14, 4101, 4102, 10_000] {
+        tried.cases += 1;
+        let bytes: Vec<u8> = (0..length).map(|_| seeded.next() as u8).collect();
+        let mut child = Command::new(program).stdin(Stdio::piped()).stdout(Stdio::piped()).spawn().expect("the listing program is built");
+        // the program stops reading once it has a byte too many, so a write that fails is no fault
+        let _ = child.stdin.take().unwrap().write_all(&bytes);
+        let printed = String::from_utf8(child.wait_with_output().unwrap().stdout).unwrap();
+        let lines: String = record6250::written(&bytes)
+            .chunks(9)
+            .map(|words| words.iter().map(u16::to_string).collect::<Vec<_>>().join(" ") + "\n")
+            .collect();
+        let want = if length > 4101 { "refused 1 0\n".to_string() } else { lines };
+        if printed != want {
+            tried.wrong.push(format!("listing of {length} bytes"));
+        }
+    }
+    tried
+}
+
 fn main() {
     let suites: Vec<(&str, Tried)> = vec![
         ("head order, outside cases", vector_file("head_order.txt")),
+        ("writing at 6250, outside cases", vector_file("write6250.txt")),
+        ("seeded writes at 6250", random_writes()),
+        ("the listing program", listing()),
         ("every map to physical", every_map(Toward::Physical)),
         ("every map to algebraic", every_map(Toward::Algebraic)),
         ("seeded words to physical", random_words(Toward::Physical)),

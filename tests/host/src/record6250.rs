@@ -1,0 +1,65 @@
+//! The 6250 record again, bit by bit from the papers: it shares nothing with the library.
+
+use crate::library::Answer;
+
+/// Document 01's codes for 0 to 15.
+const CODES: [u16; 16] = [25, 27, 18, 19, 29, 21, 22, 23, 26, 9, 10, 11, 30, 13, 14, 15];
+
+/// Multiplication by the variable modulo g = 1 + X^3 + X^4 + X^5 + X^8.
+fn times_t(byte: u8) -> u8 {
+    let mut product = 0;
+    for k in 0..8 {
+        if byte >> k & 1 == 1 {
+            product ^= if k == 7 { 1 | 1 << 3 | 1 << 4 | 1 << 5 } else { 1 << (k + 1) };
+        }
+    }
+    product
+}
+
+/// The nine track values of the group of seven information bytes, B7 first.
+fn group(info: &[u8]) -> [u8; 9] {
+    let mut b = [0u8; 8];
+    for i in 1..8 {
+        b[i] = info[7 - i];
+    }
+    for i in 1..8 {
+        let mut term = b[i];
+        for _ in 0..i {
+            term = times_t(term);
+        }
+        b[0] ^= term;
+    }
+    let mut tracks = [0u8; 9];
+    for j in 0..8 {
+        for (i, character) in b.iter().enumerate() {
+            tracks[j] |= (character >> j & 1) << i;
+        }
+        tracks[8] ^= tracks[j];
+    }
+    tracks
+}
+
+fn word(byte: u8) -> u16 {
+    CODES[usize::from(byte >> 4)] << 5 | CODES[usize::from(byte & 15)]
+}
+
+/// The words of the written record.
+pub fn written(data: &[u8]) -> Vec<u16> {
+    let mut body = data.to_vec();
+    let padding = (0..7).find(|p| (data.len() + p + 1) % 7 == 0).unwrap();
+    body.resize(data.len() + padding, 0);
+    body.push(padding as u8);
+    body.chunks(7).flat_map(|info| group(info).map(word)).collect()
+}
+
+pub fn write(data: &[u8], words: &mut [u16]) -> Answer {
+    if data.len() > 4101 {
+        return Answer::Refused(1, 0);
+    }
+    let record = written(data);
+    if words.len() < record.len() {
+        return Answer::Refused(2, 0);
+    }
+    words[..record.len()].copy_from_slice(&record);
+    Answer::Delivered(vec![record.len() as u64 / 9])
+}
