@@ -3,16 +3,21 @@
 .PHONY: run test
 
 ARCHIVE := target/staticlib/librindthok.a
+SOURCES := $(shell find crates -name '*.rt' -o -name '*.antt') crates.txt
 
-run: target/head_order
-	./target/head_order
+run: target/bin/listing target/write_and_move
+	printf '\001' | ./target/bin/listing
+	./target/write_and_move
 
 test:
 	bash .ci/run
 
-target/head_order: examples/head_order.c include/rindthok.h $(ARCHIVE)
+target/write_and_move: examples/write_and_move.c include/rindthok.h $(ARCHIVE)
 	$(CC) -O2 -Wall -Wextra -Werror -Iinclude -o $@ $< $(ARCHIVE)
 
-# rt proves the library anew and writes the archive only if every function is proved.
-$(ARCHIVE): $(shell find crates -name '*.rt' -o -name '*.antt') crates.txt
+# rt proves the crate and what it stands on, and builds only if every function is proved.
+$(ARCHIVE): $(SOURCES)
 	rt staticlib rindthok
+
+target/bin/listing: $(SOURCES)
+	rt check listing

@@ -29,6 +29,11 @@ enum rindthok_refusal {
     RINDTHOK_SEVERAL_RECORDS = 8  /* more than one written record fits */
 };
 
+/* Writes a 6250 record: 0 to 4101 bytes as groups of nine words, tracks 0 to 8 of each, at the front of
+ * `words`, and stores how many groups there are: one for each seven bytes, and one more. Refusals: 1 if
+ * there are more than 4101 bytes, 2 if the space is under nine words a group; `groups` is then as it was. */
+uint16_t rindthok_write6250(const uint8_t *bytes, size_t byte_count, uint16_t *words, size_t word_space, size_t *groups, size_t *place);
+
 /* Nine words of ten bits from code order (algebraic track a at index a) to head order (physical track
  * p, 1 to 9, at index p - 1), by the order of document 000, note 11; and back. The target has space
  * for nine or more. Refusals: 1 if there are not nine words, 2 if the space is short, 3 if a word is

@@ -1,5 +1,5 @@
-/* Head order at work: nine words and a pointer map between the head's tracks and the code's, and two
- * refusals. Built and run by `make run`. */
+/* A record is written, its words go to head order and back, and what is wrong is refused. Built and
+ * run by `make run`. */
 #include <stdio.h>
 
 #include "rindthok.h"
@@ -19,11 +19,12 @@ static void print_refusal(const char *what, uint16_t status, size_t place)
 
 int main(void)
 {
-    /* the written group of the data byte 0x01, tracks 0 to 8 */
-    const uint16_t code[9] = {850, 827, 818, 827, 825, 825, 825, 827, 859};
-    uint16_t head[9] = {0}, back[9] = {0}, map = 0;
-    size_t place;
+    const uint8_t bytes[1] = {0x01};
+    uint16_t code[9] = {0}, head[9] = {0}, back[9] = {0}, map = 0;
+    size_t groups = 0, place;
 
+    if (rindthok_write6250(bytes, 1, code, 9, &groups, &place) == 0)
+        printf("the byte 0x01 is written as %zu group\n", groups);
     print_words("code order:          ", code);
     if (rindthok_words_to_physical(code, 9, head, 9, &place) == 0)
         print_words("head order:          ", head);
@@ -34,10 +35,10 @@ int main(void)
     if (rindthok_map_to_algebraic(1 << 3 | 1 << 8, &map, &place) == 0)
         printf("pointed by the drive: physical tracks 4 and 9, map %d; algebraic map %u\n", 1 << 3 | 1 << 8, (unsigned)map);
 
-    uint16_t stray[9] = {850, 827, 1024, 827, 825, 825, 825, 827, 859};
-    uint16_t status = rindthok_words_to_physical(stray, 9, head, 9, &place);
+    head[2] = 1024;
+    uint16_t status = rindthok_words_to_algebraic(head, 9, back, 9, &place);
     print_refusal("a word above 1023", status, place);
-    status = rindthok_words_to_physical(code, 9, head, 8, &place);
+    status = rindthok_write6250(bytes, 1, code, 8, &groups, &place);
     print_refusal("space for eight words", status, place);
     return 0;
 }
