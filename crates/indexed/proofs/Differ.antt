@@ -1,13 +1,14 @@
--- Where two lists of values differ in two places at most, two places can be named outside which they agree.
+-- Where two lists of values differ in one place at most, or in two, the places can be named outside which they agree; and bounds
+-- on the number of places.
 -- Assumes nothing.
-use mathlib.Core.Path.{_≡_, refl, ap, subst, _∙_}
+use mathlib.Core.Path.{_≡_, refl, sym, ap, subst, _∙_}
 use mathlib.Core.Logic.{_⊎_, inl, inr}
 use mathlib.Core.Bool.{Bool, true, false, cond}
 use Prim.Native.Nat.{ℕ, zero, suc, _+_, _<_, _≤_}
-use native.Mathlib.Nat.{add-zero, not-suc-le-zero}
-use native.Mathlib.Decide.{decLt}
+use native.Mathlib.Nat.{add-zero, le-of-eq, not-suc-le-zero}
+use native.Mathlib.Decide.{ℕ-discrete, decLt}
 use native.Mathlib.Omega.{arith}
-use borrow.Author.Tests.{eqb-true}
+use borrow.Author.Tests.{eqb-true, eq-eqb}
 use lib.Dec.{eqb}
 use Rattle.indexed.specs.Differ.{differences}
 
@@ -47,7 +48,10 @@ module _ (u v : ℕ → ℕ) where
       by (inl s) ih = extended n (λ k. u k ≡ v k) (ih (omega arith)) (s .1)
       by (inr s) ih = absurd (omega arith)
 
-  one : (n : ℕ) → differences (suc n) u v ≤ 1 → (i : ℕ) × (i < suc n) × ((k : ℕ) → k < suc n → (k ≡ i → ⊥) → u k ≡ v k)
+  pub equal-of-no-differences : (n : ℕ) → differences n u v ≡ 0 → (k : ℕ) → k < n → u k ≡ v k
+  equal-of-no-differences n e = none n (le-of-eq e)
+
+  pub one : (n : ℕ) → differences (suc n) u v ≤ 1 → (i : ℕ) × (i < suc n) × ((k : ℕ) → k < suc n → (k ≡ i → ⊥) → u k ≡ v k)
   one zero h = (0, omega arith, λ k b ne. absurd (ne (omega arith)))
   one (suc n) h = by (split (suc n)) (one n)
     where
@@ -99,3 +103,46 @@ module _ (u v : ℕ → ℕ) where
             extended (suc (suc n)) (λ k. (k ≡ c .0 → ⊥) → (k ≡ suc (suc n) → ⊥) → u k ≡ v k) (λ k b ni nj. c .2 k b ni)
                 (λ ni nj. absurd (nj refl)),
           )
+
+-- ---- bounds
+
+-- what one index counts, by whether the values agree there
+abbrev counted : Bool → ℕ
+counted t = cond t 0 1
+
+count-le : (b : Bool) → counted b ≤ 1
+count-le true = omega arith
+count-le false = omega arith
+
+count-none : (a b : ℕ) → a ≡ b → counted (eqb a b) ≡ 0
+count-none a b e = ap counted (eq-eqb a b e)
+
+pub differences-none : (u v : ℕ → ℕ) (n : ℕ) → ((k : ℕ) → k < n → u k ≡ v k) → differences n u v ≡ 0
+unfolding differences
+differences-none u v zero e = refl
+differences-none u v (suc n) e =
+    omega (arith, differences-none u v n (λ k h. e k (omega arith)), count-none (u n) (v n) (e n (omega arith)))
+
+-- they agree but for i
+pub differences-one : (u v : ℕ → ℕ) (i n : ℕ) → AgreeBut n u v i i → differences n u v ≤ 1
+unfolding differences
+differences-one u v i zero e = omega arith
+differences-one u v i (suc n) e = by (ℕ-discrete n i) (differences-one u v i n (λ k h. e k (omega arith)))
+  where
+    by : Dec (n ≡ i) → differences n u v ≤ 1 → differences n u v + counted (eqb (u n) (v n)) ≤ 1
+    by (yes same) ih =
+        omega (arith, count-le (eqb (u n) (v n)), differences-none u v n (λ k h. e k (omega arith) (λ q. omega arith) (λ q. omega arith)))
+    by (no apart) ih = omega (arith, count-none (u n) (v n) (e n (omega arith) apart apart))
+
+-- two that each differ from a third differ from each other in no more places than both
+pub differences-both : (r u v : ℕ → ℕ) (n : ℕ) → differences n u v ≤ differences n r u + differences n r v
+unfolding differences
+differences-both r u v zero = omega arith
+differences-both r u v (suc n) =
+    omega (arith, differences-both r u v n, at (eqb (r n) (u n)) (eqb (r n) (v n)) refl refl)
+  where
+    at : (b d : Bool) → eqb (r n) (u n) ≡ b → eqb (r n) (v n) ≡ d → counted (eqb (u n) (v n)) ≤ counted b + counted d
+    at true true e q = omega (arith, count-none (u n) (v n) (sym (eqb-true (r n) (u n) e) ∙ eqb-true (r n) (v n) q))
+    at true false e q = count-le (eqb (u n) (v n))
+    at false true e q = count-le (eqb (u n) (v n))
+    at false false e q = omega (arith, count-le (eqb (u n) (v n)))

@@ -1,10 +1,12 @@
 -- The first element that passes a test: how a search that went through a list finds it, and what is known of it.
 -- Assumes nothing.
 use mathlib.Core.Path.{_≡_, refl, sym, ap, _∙_}
-use mathlib.Core.Bool.{Bool, true, false, cond}
+use mathlib.Core.Bool.{Bool, true, false, cond, true≢false}
 use mathlib.Core.List.{List, [], _∷_}
 use Prim.Native.Nat.{ℕ, zero, suc, _<_, _≤_, zero-le, suc-le-suc}
 use native.Mathlib.Nat.{not-suc-le-zero, le-of-suc-le-suc, zero-lt-suc, suc-ne-zero, suc-inj}
+use native.Mathlib.Decide.{decLt}
+use native.Mathlib.Omega.{arith}
 use lib.ListN.{length, getD}
 use Rattle.indexed.specs.List.{firstWhere}
 
@@ -61,3 +63,11 @@ pub first-passes : (p : ℕ → Bool) (l : List ℕ) → firstWhere p l < length
 unfolding firstWhere
 first-passes p [] h = absurd (not-suc-le-zero h)
 first-passes p (x ∷ xs) h = passes-step p x xs (p x) refl (firstWhere p xs) (first-passes p xs) h
+
+-- where some element passes, the search finds one
+pub first-found : (p : ℕ → Bool) (l : List ℕ) (k : ℕ) → k < length l → p (getD l k 0) ≡ true → firstWhere p l < length l
+first-found p l k h passes = by (decLt (firstWhere p l) (length l))
+  where
+    by : Dec (firstWhere p l < length l) → firstWhere p l < length l
+    by (yes b) = b
+    by (no b) = absurd (true≢false (sym passes ∙ first-before p l k (omega arith)))

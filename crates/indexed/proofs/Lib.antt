@@ -1,7 +1,10 @@
 pub mod Test
 pub mod Differ
 pub mod Tabulate
+pub mod Total
 pub mod First
+pub mod Below
+pub mod Keep
 pub mod Front
 pub mod Blocks
 pub mod Part

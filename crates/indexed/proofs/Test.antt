@@ -1,9 +1,9 @@
--- From a test that was computed to the fact at each number.
+-- From a test that was computed to the fact at each number, and back.
 -- Assumes nothing.
-use mathlib.Core.Path.{_≡_, subst}
+use mathlib.Core.Path.{_≡_, refl, ap₂, subst}
 use mathlib.Core.Bool.{Bool, true, false, _&&_}
 use Prim.Native.Nat.{ℕ, zero, suc, _<_}
-use native.Mathlib.Nat.{not-suc-le-zero}
+use native.Mathlib.Nat.{le-refl, not-suc-le-zero}
 use native.Mathlib.Decide.{decLt}
 use native.Mathlib.Omega.{arith}
 use lib.Dec.{T, eqb, eqb→eq}
@@ -24,6 +24,10 @@ tested (suc n) p t k h = go (tested n p (both-right (p n) (allBelow n p) t) k) (
     go : (k < n → T (p k)) → Dec (k < n) → T (p k)
     go ih (yes below) = ih below
     go ih (no above) = subst (λ (m : ℕ). T (p m)) (omega arith) (both-left (p n) (allBelow n p) t)
+
+pub all-true : (n : ℕ) (p : ℕ → Bool) → ((k : ℕ) → k < n → p k ≡ true) → allBelow n p ≡ true
+all-true zero p h = refl
+all-true (suc n) p h = ap₂ _&&_ (h n (le-refl (suc n))) (all-true n p (λ k b. h k (omega arith)))
 
 -- two functions whose values are computed to be equal, of one number, of two and of three
 pub equal : (n : ℕ) (f g : ℕ → ℕ) → T (allBelow n (λ k. eqb (f k) (g k))) → (k : ℕ) → k < n → f k ≡ g k

@@ -1,6 +1,6 @@
 -- Lists by index.
 -- Assumes nothing.
-use Prim.Native.Nat.{ℕ, zero, suc}
+use Prim.Native.Nat.{ℕ, zero, suc, _+_, _-_}
 use mathlib.Core.Bool.{Bool, cond}
 use mathlib.Core.List.{List, [], _∷_, _++_}
 
@@ -22,3 +22,25 @@ blocks (suc n) f = blocks n f ++ f n
 unfoldable pub firstWhere : (ℕ → Bool) → List ℕ → ℕ
 firstWhere p [] = zero
 firstWhere p (x ∷ xs) = cond (p x) zero (suc (firstWhere p xs))
+
+-- 0, 1, .., n - 1
+unfoldable pub below : ℕ → List ℕ
+below n = tabulate n (λ k. k)
+
+-- the first number below n that passes the test, or n where none does
+unfoldable pub firstBelow : ℕ → (ℕ → Bool) → ℕ
+firstBelow n p = firstWhere p (below n)
+
+-- the elements that pass the test, in their order
+unfoldable pub keep : (ℕ → Bool) → List ℕ → List ℕ
+keep p [] = []
+keep p (x ∷ xs) = cond (p x) (x ∷ keep p xs) (keep p xs)
+
+-- the place of element k among n that come last first, or as they are
+unfoldable pub turnedPlace : Bool → ℕ → ℕ → ℕ
+turnedPlace backward n k = cond backward (n - 1 - k) k
+
+-- the sum of f 0, .., f (n - 1)
+unfoldable pub total : ℕ → (ℕ → ℕ) → ℕ
+total zero f = zero
+total (suc n) f = total n f + f n

@@ -1,3 +1,16 @@
 pub mod Words
 pub mod Body
+pub mod Padding
 pub mod Stored
+pub mod Packing
+pub mod Receiving
+pub mod Scan
+pub mod Changed
+pub mod Bounded
+pub mod FittingGroup
+pub mod Reading
+pub mod Picture
+pub mod Cases
+pub mod Fitting
+pub mod Refused
+pub mod Undamaged

@@ -1,2 +1,8 @@
 pub mod Record
 pub mod Written
+pub mod Picture
+pub mod Group
+pub mod Read
+pub mod Fits
+pub mod Received
+pub mod Stray

@@ -1,5 +1,8 @@
 // Records at 6250 bits per inch (document 01, "The 6250 record").
+mod corrected;
 mod group;
+mod received;
+mod stray;
 mod writer;
 
 use answer::Refusal;

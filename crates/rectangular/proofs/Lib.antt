@@ -3,4 +3,11 @@ pub mod Symmetry
 pub mod Equations
 pub mod Distance
 pub mod Suits
+pub mod Erasure
+pub mod Syndrome
+pub mod Pointed
+pub mod Correction
+pub mod Bytes
+pub mod Exchange
+pub mod Matrix
 pub mod Packed

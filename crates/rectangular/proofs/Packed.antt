@@ -5,7 +5,7 @@ use mathlib.Core.Path.{_≡_, refl, sym, ap, ap₂, _∙_}
 use mathlib.Core.Bool.{Bool, cond}
 use mathlib.Core.List.{List, [], _∷_, _++_}
 use Prim.Native.Nat.{ℕ, suc, _+_, _-_, _*_, _/_, _%_, _^_, _<_}
-use native.Mathlib.Nat.{div-one, mod-lt, zero-lt-suc, lt-trans, lt-of-lt-of-le, mul-lt-mul-of-pos-right, mul-le-mul-left, div-lt-iff-lt-mul}
+use native.Mathlib.Nat.{div-one, zero-lt-suc, lt-trans, lt-of-lt-of-le, mul-lt-mul-of-pos-right, mul-le-mul-left, div-lt-iff-lt-mul}
 use native.Mathlib.Omega.{arith}
 use borrow.Author.Tests.{eq-eqb, ne-eqb}
 use lib.Bits.{xor-comm, xor-shr, xor-mod}
@@ -20,7 +20,6 @@ use Rattle.register.specs.Bit.{bit}
 use Rattle.register.specs.Shift.{shift, shifts}
 use Rattle.register.specs.Sum.{xorSum}
 use Rattle.register.specs.Xor.{_⊕_}
-use Rattle.register.proofs.Bit.{bit-shr, bit-mod}
 use Rattle.register.proofs.Expand.{bit-sum, bits-ext}
 use Rattle.register.proofs.Sum.{sum-ext, sum-lt, sum-one, sum-first, sum-last, sum-xor, sum-mod, sum-shr, shifts-sum}
 use Rattle.register.proofs.Xor.{xor-assoc, xor-left-comm}
@@ -29,6 +28,7 @@ use Rattle.rectangular.specs.Constants.{feedback}
 use Rattle.rectangular.specs.Group.{information, check, character, column, track, group}
 use Rattle.rectangular.specs.Packed.{byteAt, valuesOf, sumOf, tracksTo, parityByte}
 use Rattle.rectangular.specs.declared.group.Group.{Group}
+use Rattle.rectangular.proofs.Bytes.{bit-byte, byte-lt}
 use Rattle.rectangular.proofs.Symmetry.{column-lt, bit-column}
 use Rattle.rectangular.proofs.Equations.{Below, character-lt, track-low, track-parity}
 
@@ -101,10 +101,9 @@ all-eight g =
 -- ---- the check character, from its sum
 
 -- a term T^i b: the lowest eight bits of X^i b, and what the others leave
-term : (i b : ℕ) → i < 7 → b < 256 → shifts 8 feedback (suc i) b ≡ (b * 2 ^ suc i % 256) ⊕ reducedOf (b * 2 ^ suc i / 256)
+pub term : (i b : ℕ) → i < 8 → b < 256 → shifts 8 feedback i b ≡ (b * 2 ^ i % 256) ⊕ reducedOf (b * 2 ^ i / 256)
 unfolding shift shifts
-term =
-    equal₂ 7 256 (λ i b. shifts 8 feedback (suc i) b) (λ i b. (b * 2 ^ suc i % 256) ⊕ reducedOf (b * 2 ^ suc i / 256)) tt
+term = equal₂ 8 256 (λ i b. shifts 8 feedback i b) (λ i b. (b * 2 ^ i % 256) ⊕ reducedOf (b * 2 ^ i / 256)) tt
 
 -- what is left of h X^8 is T^8 h, so it is linear
 reduced-power : (h : ℕ) → h < 128 → reducedOf h ≡ shifts 8 feedback 8 h
@@ -140,7 +139,7 @@ module _ (info : List ℕ) (below : Below 8 info) where
       ap (λ (u : ℕ). (u % 256) ⊕ reducedOf (u / 256)) (first-seven (λ i. character 8 feedback info i * 2 ^ i))
       ∙ ap₂ _⊕_ (sum-mod 8 7 product) (sym sum-high)
       ∙ sym (sum-xor 7 (λ i. product i % 256) (λ i. reducedOf (high i)))
-      ∙ sym (sum-ext 7 _ _ (λ i h. term i (information 8 info (suc i)) h (below (8 - 1 - suc i))))
+      ∙ sym (sum-ext 7 _ _ (λ i h. term (suc i) (information 8 info (suc i)) (omega arith) (below (8 - 1 - suc i))))
 
   -- bit r of track j is bit j of B_r
   tracks-character : (j r : ℕ) → j < 8 → r < 8 → bit (8 * j + r) (tracksTo 8 info) ≡ bit j (character 8 feedback info r)
@@ -155,11 +154,9 @@ module _ (info : List ℕ) (below : Below 8 info) where
 
   -- so its bytes are the tracks
   pub byte-is-column : (j : ℕ) → j < 8 → byteAt j (tracksTo 8 info) ≡ column 8 (character 8 feedback info) j
-  unfolding byteAt
   byte-is-column j h =
-      bits-ext 8 _ _ (mod-lt (tracksTo 8 info / 2 ^ (8 * j)) (zero-lt-suc 255)) (column-lt 8 (character 8 feedback info) j)
-      (λ r b. bit-mod r 8 (tracksTo 8 info / 2 ^ (8 * j)) b
-      ∙ bit-shr r (8 * j) (tracksTo 8 info)
+      bits-ext 8 _ _ (byte-lt j (tracksTo 8 info)) (column-lt 8 (character 8 feedback info) j)
+      (λ r b. bit-byte (tracksTo 8 info) j r b
       ∙ tracks-character j r h b
       ∙ sym (bit-column 8 (character 8 feedback info) r j b))
 

@@ -1,3 +1,4 @@
 pub mod Constants
 pub mod Group
 pub mod Packed
+pub mod Correction

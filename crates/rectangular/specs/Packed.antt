@@ -3,8 +3,11 @@
 -- Assumes nothing.
 use mathlib.Core.List.{List, [], _∷_, _++_}
 use Prim.Native.Nat.{ℕ, _+_, _*_, _/_, _%_, _^_}
+use lib.Bits.{bitAnd}
 use Rattle.indexed.specs.List.{tabulate}
+use Rattle.register.specs.Bit.{bit}
 use Rattle.register.specs.Sum.{xorSum}
+use Rattle.register.specs.Xor.{_⊕_}
 use Rattle.tables.specs.Rule.{spreadOf}
 use Rattle.rectangular.specs.Constants.{feedback}
 use Rattle.rectangular.specs.Group.{character}
@@ -13,6 +16,10 @@ use Rattle.rectangular.specs.declared.group.Group.{Group}
 -- track byte j
 unfoldable pub byteAt : ℕ → ℕ → ℕ
 byteAt j tracks = tracks / 2 ^ (8 * j) % 256
+
+-- the eight track bytes
+unfoldable pub bytesOf : ℕ → List ℕ
+bytesOf tracks = tabulate 8 (λ j. byteAt j tracks)
 
 -- the nine track values
 unfoldable pub valuesOf : Group → List ℕ
@@ -29,3 +36,15 @@ sumOf n info = xorSum n (λ k. character 8 feedback info ((k + 1) % 8) * 2 ^ ((k
 -- the exclusive-or of the eight track bytes
 unfoldable pub parityByte : ℕ → ℕ
 parityByte tracks = xorSum 8 (λ j. byteAt j tracks)
+
+-- one step of the exchange of rows and columns ("Orthogonal symmetry"): the bits that the mask marks change places with those a
+-- distance above them
+unfoldable pub exchange : ℕ → ℕ → ℕ → ℕ
+exchange distance mask x =
+    x
+    ⊕ bitAnd (x ⊕ x / 2 ^ distance) mask
+    ⊕ bitAnd (x ⊕ x / 2 ^ distance) mask * 2 ^ distance % 2 ^ 64
+
+-- a matrix times a byte: the sum of the columns that the byte's ones pick, column k in byte k
+unfoldable pub productOf : ℕ → ℕ → ℕ
+productOf columns x = xorSum 8 (λ k. bit k x * byteAt k columns)

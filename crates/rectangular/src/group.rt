@@ -62,7 +62,7 @@ fn tracks(info: &[u8]) -> u64
 }
 
 // The exclusive-or of the eight track bytes.
-fn parity(tracks: u64) -> u8
+pub(crate) fn parity(tracks: u64) -> u8
     ensures { λ r. ⌜ r ≡ parityByte tracks ⌝ }
 {
     let half = tracks ^ (tracks >> 32);

@@ -1,5 +1,7 @@
-// The rectangular code of document 000: its constants, its register, and its groups.
+// The rectangular code of document 000: its constants, its register, its groups, and products with bytes.
 pub mod group;
+pub mod product;
+pub mod transpose;
 
 ghost use mathlib.Core.Path.{_≡_};
 ghost use Rattle.rectangular.specs.Constants.{timesT, timesPower};

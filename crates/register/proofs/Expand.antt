@@ -63,7 +63,7 @@ shifts-digit w f k d a h =
     (ap (shifts w f k) (zero-mul a) ∙ shifts-zero w f k ∙ sym (zero-mul (shifts w f k a)))
     (ap (shifts w f k) (one-mul a) ∙ sym (one-mul (shifts w f k a))) d h
 
-digit-place-lt : (w j d : ℕ) → j < w → d < 2 → d * 2 ^ j < 2 ^ w
+pub digit-place-lt : (w j d : ℕ) → j < w → d < 2 → d * 2 ^ j < 2 ^ w
 digit-place-lt w j d hj hd =
     digit-ind (λ (d : ℕ). d * 2 ^ j < 2 ^ w) (omega (arith, pow-pos w)) (omega (arith, pow-lt hj)) d hd
 

@@ -2,7 +2,7 @@
 -- Assumes nothing.
 use mathlib.Core.Path.{_≡_, sym, ap, subst, _∙_}
 use mathlib.Core.Bool.{not}
-use Prim.Native.Nat.{ℕ, zero, suc, _+_, _-_, _*_, _/_, _%_, _^_, _<_}
+use Prim.Native.Nat.{ℕ, zero, suc, _+_, _-_, _*_, _/_, _%_, _^_, _<_, _≤_}
 use native.Mathlib.Nat.{zero-lt-suc, lt-irrefl, le-of-suc-le-suc, zero-mul, suc-mul, mul-le-mul-left, div-add-mod'}
 use native.Mathlib.Omega.{arith}
 use lib.Dec.{T, eqb, eqb→eq, eqb-refl, T-not}
@@ -28,7 +28,7 @@ exponent w f n keeps moves = record {
         (subst (λ (m : ℕ). T (eqb m 1)) (sym e) (eqb-refl 1))
 
 module _ (w f n : ℕ) (x : Exponent w f n) (fits : f < 2 ^ w) where
-  multiples : (q a : ℕ) → a < 2 ^ w → shifts w f (q * n) a ≡ a
+  pub multiples : (q a : ℕ) → a < 2 ^ w → shifts w f (q * n) a ≡ a
   unfolding shifts
   multiples zero a h = ap (λ (k : ℕ). shifts w f k a) (zero-mul n)
   multiples (suc q) a h =
@@ -51,3 +51,9 @@ module _ (w f n : ℕ) (x : Exponent w f n) (fits : f < 2 ^ w) where
       round c h =
           let whole : k * n - k + k ≡ k * n = omega (arith, mul-le-mul-left k (x .positive)) in
           sym (shifts-add w f (k * n - k) k c) ∙ ap (λ (j : ℕ). shifts w f j c) whole ∙ multiples k c h
+
+  -- and the power n - k undoes the power k
+  pub shifts-back : (k a : ℕ) → k ≤ n → a < 2 ^ w → shifts w f k (shifts w f (n - k) a) ≡ a
+  shifts-back k a b h =
+      let whole : k + (n - k) ≡ n = omega arith in
+      sym (shifts-add w f k (n - k) a) ∙ ap (λ (j : ℕ). shifts w f j a) whole ∙ x .identity a h

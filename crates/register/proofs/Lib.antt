@@ -1,7 +1,10 @@
 pub mod Xor
+pub mod And
 pub mod Bit
 pub mod Shift
 pub mod Sum
 pub mod Expand
+pub mod Ones
+pub mod Linear
 pub mod Exponent
 pub mod Parity

@@ -1,17 +1,17 @@
--- Laws of sums term by term: they are linear, their order may be exchanged, a shift goes into them, and where all terms but
--- one or two are zero the sum is those.
+-- Laws of sums term by term: they are linear, their order may be exchanged, a shift goes into them, where all terms but one or
+-- two are zero the sum is those, and neighbours cancel or pair.
 -- Assumes nothing.
 use mathlib.Core.Path.{_≡_, refl, sym, ap, ap₂, _∙_}
-use Prim.Native.Nat.{ℕ, zero, suc, _/_, _%_, _^_, _<_}
+use Prim.Native.Nat.{ℕ, zero, suc, _*_, _/_, _%_, _^_, _<_}
 use native.Mathlib.Nat.{le-refl, lt-irrefl, not-suc-le-zero, mod-eq-of-lt, div-eq-of-lt}
 use native.Mathlib.Decide.{ℕ-discrete}
 use native.Mathlib.Omega.{arith}
 use lib.Pow.{pow-pos}
-use lib.Bits.{xor-lt, xor-zero-r, xor-shr, xor-mod}
+use lib.Bits.{xor-lt, xor-self, xor-zero-r, xor-shr, xor-mod}
 use Rattle.register.specs.Xor.{_⊕_}
 use Rattle.register.specs.Shift.{shifts}
 use Rattle.register.specs.Sum.{xorSum}
-use Rattle.register.proofs.Xor.{xor-assoc, xor-swap}
+use Rattle.register.proofs.Xor.{xor-assoc, xor-cancel, xor-swap}
 use Rattle.register.proofs.Shift.{shifts-xor, shifts-zero}
 
 -- the same terms, the same sum
@@ -105,3 +105,23 @@ sum-two (suc n) g i j hi hj z = by (ℕ-discrete n j) (sum-two n g i j hi)
         ap₂ _⊕_ (ih (omega arith) (λ k b q r. z k (omega arith) q r))
         (z n (le-refl (suc n)) (λ p. omega arith) ne)
         ∙ xor-zero-r (g i ⊕ g j)
+
+-- ---- neighbours: a sum and the sum one place on, and a sum of pairs
+
+pub sum-telescope : (n : ℕ) (g : ℕ → ℕ) → xorSum n g ⊕ xorSum n (λ k. g (suc k)) ≡ g 0 ⊕ g n
+unfolding xorSum
+sum-telescope zero g = sym (xor-self (g 0))
+sum-telescope (suc n) g =
+    xor-swap (xorSum n g) (g n) (xorSum n (λ k. g (suc k))) (g (suc n))
+    ∙ ap (λ (x : ℕ). x ⊕ (g n ⊕ g (suc n))) (sum-telescope n g)
+    ∙ xor-assoc (g 0) (g n) (g n ⊕ g (suc n))
+    ∙ ap (λ (x : ℕ). g 0 ⊕ x) (xor-cancel (g n) (g (suc n)))
+
+pub sum-pairs : (n : ℕ) (g : ℕ → ℕ) → xorSum n (λ k. g (2 * k) ⊕ g (suc (2 * k))) ≡ xorSum (2 * n) g
+unfolding xorSum
+sum-pairs zero g = refl
+sum-pairs (suc n) g =
+    let twice : suc (suc (2 * n)) ≡ 2 * suc n = omega arith in
+    ap (λ (x : ℕ). x ⊕ (g (2 * n) ⊕ g (suc (2 * n)))) (sum-pairs n g)
+    ∙ sym (xor-assoc (xorSum (2 * n) g) (g (2 * n)) (g (suc (2 * n))))
+    ∙ ap (λ (m : ℕ). xorSum m g) twice

@@ -1,0 +1,62 @@
+-- Sums, and how many places differ, as a sum: term by term, in two parts and in parts of one length.
+-- Assumes nothing.
+use mathlib.Core.Path.{_≡_, refl, sym, ap, ap₂, _∙_}
+use mathlib.Core.Bool.{Bool, cond}
+use Prim.Native.Nat.{ℕ, zero, suc, _+_, _*_, _<_}
+use native.Mathlib.Nat.{mul-zero, mul-suc, add-zero, add-suc, add-assoc, le-refl}
+use native.Mathlib.Omega.{arith}
+use borrow.Author.Tests.{eq-eqb}
+use lib.Dec.{eqb}
+use Rattle.indexed.specs.List.{total}
+use Rattle.indexed.specs.Differ.{differences}
+
+-- the same terms, the same sum
+pub total-same : (n : ℕ) (f g : ℕ → ℕ) → ((k : ℕ) → k < n → f k ≡ g k) → total n f ≡ total n g
+unfolding total
+total-same zero f g e = refl
+total-same (suc n) f g e = ap₂ _+_ (total-same n f g (λ k h. e k (omega arith))) (e n (le-refl (suc n)))
+
+-- the first term apart
+pub total-first : (n : ℕ) (f : ℕ → ℕ) → total (suc n) f ≡ f 0 + total n (λ k. f (suc k))
+unfolding total
+total-first zero f = omega arith
+total-first (suc n) f = omega (arith, total-first n f)
+
+-- ---- the places that differ
+
+pub differences-total : (n : ℕ) (u v : ℕ → ℕ) → differences n u v ≡ total n (λ k. cond (eqb (u k) (v k)) 0 1)
+unfolding differences total
+differences-total zero u v = refl
+differences-total (suc n) u v = ap (λ (x : ℕ). x + cond (eqb (u n) (v n)) 0 1) (differences-total n u v)
+
+pub differences-same : (n : ℕ) (u v s t : ℕ → ℕ) → ((k : ℕ) → k < n → eqb (u k) (v k) ≡ eqb (s k) (t k))
+    → differences n u v ≡ differences n s t
+unfolding differences
+differences-same zero u v s t e = refl
+differences-same (suc n) u v s t e =
+    ap₂ (λ (x : ℕ) (b : Bool). x + cond b 0 1) (differences-same n u v s t (λ k h. e k (omega arith))) (e n (le-refl (suc n)))
+
+pub differences-zero : (n : ℕ) (u v : ℕ → ℕ) → ((k : ℕ) → k < n → u k ≡ v k) → differences n u v ≡ 0
+unfolding differences
+differences-zero zero u v e = refl
+differences-zero (suc n) u v e =
+    ap₂ (λ (x : ℕ) (b : Bool). x + cond b 0 1) (differences-zero n u v (λ k h. e k (omega arith)))
+    (eq-eqb (u n) (v n) (e n (le-refl (suc n))))
+
+pub differences-split : (m n : ℕ) (u v : ℕ → ℕ)
+    → differences (m + n) u v ≡ differences m u v + differences n (λ k. u (m + k)) (λ k. v (m + k))
+unfolding differences
+differences-split m zero u v = ap (λ (k : ℕ). differences k u v) (add-zero m) ∙ sym (add-zero (differences m u v))
+differences-split m (suc n) u v =
+    ap (λ (k : ℕ). differences k u v) (add-suc m n)
+    ∙ ap (λ (x : ℕ). x + cond (eqb (u (m + n)) (v (m + n))) 0 1) (differences-split m n u v)
+    ∙ add-assoc (differences m u v) _ _
+
+pub differences-blocks : (size n : ℕ) (u v : ℕ → ℕ)
+    → differences (size * n) u v ≡ total n (λ g. differences size (λ k. u (size * g + k)) (λ k. v (size * g + k)))
+unfolding total differences
+differences-blocks size zero u v = ap (λ (k : ℕ). differences k u v) (mul-zero size)
+differences-blocks size (suc n) u v =
+    ap (λ (k : ℕ). differences k u v) (mul-suc size n)
+    ∙ differences-split (size * n) size u v
+    ∙ ap (λ (x : ℕ). x + differences size (λ k. u (size * n + k)) (λ k. v (size * n + k))) (differences-blocks size n u v)

@@ -1,0 +1,156 @@
+-- What a search through a reading or a body has seen, and what it then knows.
+-- Assumes nothing.
+use mathlib.Core.Path.{_≡_, refl, sym, ap, ap₂, subst, _∙_}
+use mathlib.Core.Bool.{Bool, true, false, cond, _&&_, _||_}
+use mathlib.Core.List.{List}
+use Prim.Native.Nat.{ℕ, zero, suc, _+_, _-_, _*_, _^_, _<_, _≤_}
+use native.Mathlib.Decide.{decLt}
+use native.Mathlib.Nat.{le-trans, lt-of-le-of-lt, mul-comm, not-suc-le-zero}
+use native.Mathlib.Omega.{arith}
+use borrow.Author.Tests.{lt-ltb, le-ltb, le-leb, lt-leb}
+use lib.Bits.{bitOr, bitAnd, or-add-and, and-le-l, and-le-r}
+use lib.Dec.{ltb, leb, eqb}
+use lib.ListN.{length, getD}
+use Rattle.indexed.specs.List.{firstBelow, turnedPlace}
+use Rattle.indexed.specs.Test.{allBelow}
+use Rattle.indexed.proofs.Test.{all-true}
+use Rattle.indexed.proofs.Below.{first-below-at, first-below-none, first-below-same}
+use Rattle.indexed.proofs.Tabulate.{getD-tabulate}
+use Rattle.group_code.specs.Word.{reversedWord, forwardWord}
+use Rattle.group_code.proofs.Words.{reversed-lt, reversed-above}
+use Rattle.record6250.specs.Group.{stray}
+use Rattle.record6250.specs.Picture.{groupRead, mapRead}
+use Rattle.record6250.specs.Read.{lastByte, paddingSuits, readGroup, readMap, firstStray}
+use Rattle.record6250.specs.Stray.{unionTo, unionOf, strayAt}
+
+-- what holds below n and at n holds below n + 1
+pub one-more-below : (n : ℕ) (P : ℕ → Type 0) → ((k : ℕ) → k < n → P k) → P n → (k : ℕ) → k < n + 1 → P k
+one-more-below n P seen now k h = by (decLt k n)
+  where
+    by : Dec (k < n) → P k
+    by (yes b) = seen k b
+    by (no b) = let e : n ≡ k = omega arith in subst P e now
+
+-- ---- stray bits
+
+module _ (words : List ℕ) (at pointers : ℕ) where
+  pub stray-word : (k : ℕ) → k < 9 → ((j : ℕ) → j < k → ltb 1023 (getD words (at + j) 0) ≡ false) → 1023 < getD words (at + k) 0
+      → strayAt words at pointers ≡ true
+  unfolding strayAt
+  stray-word k h none above =
+      let found = first-below-at 9 (λ k. ltb 1023 (getD words (at + k) 0)) k h none (lt-ltb 1023 (getD words (at + k) 0) above) in
+      ap (λ (n : ℕ). ltb n 9 || ltb 511 pointers) found ∙ ap (λ (b : Bool). b || ltb 511 pointers) (lt-ltb k 9 h)
+
+  pub no-stray-word : ((j : ℕ) → j < 9 → ltb 1023 (getD words (at + j) 0) ≡ false) → strayAt words at pointers ≡ ltb 511 pointers
+  unfolding strayAt
+  no-stray-word none =
+      ap (λ (n : ℕ). ltb n 9 || ltb 511 pointers) (first-below-none 9 (λ k. ltb 1023 (getD words (at + k) 0)) none)
+
+-- a word turned has stray bits if it had them
+forward-above : (backward : Bool) (word : ℕ) → ltb 1023 (forwardWord backward word) ≡ ltb 1023 word
+unfolding forwardWord
+forward-above true word = by (decLt word 1024)
+  where
+    by : Dec (word < 1024) → ltb 1023 (reversedWord word) ≡ ltb 1023 word
+    by (yes h) = le-ltb 1023 (reversedWord word) (omega (arith, reversed-lt word h)) ∙ sym (le-ltb 1023 word (omega arith))
+    by (no h) = ap (ltb 1023) (reversed-above word (omega arith))
+forward-above false word = refl
+
+module _ (backward : Bool) (words maps : List ℕ) where
+  pub stray-of-lent : (g : ℕ) → stray (readGroup backward words maps g) (readMap backward words maps g)
+      ≡ strayAt words (9 * turnedPlace backward (length maps) g) (getD maps (turnedPlace backward (length maps) g) 0)
+  unfolding stray strayAt readGroup readMap groupRead mapRead
+  stray-of-lent g =
+      ap (λ (n : ℕ). ltb n 9 || ltb 511 (getD maps (turnedPlace backward (length maps) g) 0))
+      (first-below-same 9 _ _
+      (λ k h. ap (ltb 1023)
+      (getD-tabulate 9 (λ k. forwardWord backward (getD words (9 * turnedPlace backward (length maps) g + k) 0)) k 0 h)
+      ∙ forward-above backward (getD words (9 * turnedPlace backward (length maps) g + k) 0)))
+
+  -- what a group's test told, at the place where it lies
+  pub stray-told : (g place : ℕ) (told : Bool) → place ≡ turnedPlace backward (length maps) g → told ≡ strayAt words (place * 9) (getD maps place 0)
+      → stray (readGroup backward words maps g) (readMap backward words maps g) ≡ told
+  stray-told g place told e t =
+      stray-of-lent g
+      ∙ ap (λ (p : ℕ). strayAt words (9 * p) (getD maps p 0)) (sym e)
+      ∙ ap (λ (n : ℕ). strayAt words n (getD maps place 0)) (mul-comm 9 place)
+      ∙ sym t
+
+-- ---- all bits at once
+
+or-above : (a b : ℕ) → a ≤ bitOr a b
+or-above a b = omega (arith, or-add-and a b, and-le-r a b)
+
+or-above-right : (a b : ℕ) → b ≤ bitOr a b
+or-above-right a b = omega (arith, or-add-and a b, and-le-l a b)
+
+pub in-union : (values : List ℕ) (n k : ℕ) → k < n → getD values k 0 ≤ unionTo n values
+unfolding unionTo
+in-union values zero k h = absurd (not-suc-le-zero h)
+in-union values (suc n) k h = by (decLt k n) (in-union values n k)
+  where
+    by : Dec (k < n) → (k < n → getD values k 0 ≤ unionTo n values) → getD values k 0 ≤ bitOr (unionTo n values) (getD values n 0)
+    by (yes b) ih = le-trans (ih b) (or-above (unionTo n values) (getD values n 0))
+    by (no b) ih =
+        let e : k ≡ n = omega arith in
+        rw e (or-above-right (unionTo n values) (getD values n 0))
+
+-- no value is above what all of them have
+pub below-union : (values : List ℕ) (limit : ℕ) → unionOf values < limit → (k : ℕ) → k < length values → getD values k 0 < limit
+unfolding unionOf
+below-union values limit h k b = lt-of-le-of-lt (in-union values (length values) k b) h
+
+module _ (backward : Bool) (words maps : List ℕ) (lengths : length words ≡ 9 * length maps) where
+  pub place-lt : (g : ℕ) → g < length maps → turnedPlace backward (length maps) g < length maps
+  unfolding turnedPlace
+  place-lt g h = by backward
+    where
+      by : (b : Bool) → cond b (length maps - 1 - g) g < length maps
+      by true = omega arith
+      by false = h
+
+  pub none-stray : unionOf words < 1024 → unionOf maps < 512 → firstStray backward words maps ≡ length maps
+  unfolding firstStray
+  none-stray few few-maps =
+      first-below-none (length maps) (λ g. stray (readGroup backward words maps g) (readMap backward words maps g))
+      (λ g h. stray-of-lent backward words maps g
+      ∙ no-stray-word words _ _
+      (λ j b. le-ltb 1023 _
+      (le-of-lt-suc' (below-union words 1024 few (9 * turnedPlace backward (length maps) g + j) (omega (arith, place-lt g h, lengths)))))
+      ∙ le-ltb 511 _ (le-of-lt-suc' (below-union maps 512 few-maps (turnedPlace backward (length maps) g) (place-lt g h))))
+    where
+      le-of-lt-suc' : {a b : ℕ} → a < suc b → a ≤ b
+      le-of-lt-suc' h = omega arith
+
+-- ---- the padding rule
+
+all-false : (n : ℕ) (p : ℕ → Bool) (k : ℕ) → k < n → p k ≡ false → allBelow n p ≡ false
+all-false zero p k h e = absurd (not-suc-le-zero h)
+all-false (suc n) p k h e = by (decLt k n) (all-false n p k)
+  where
+    by : Dec (k < n) → (k < n → p k ≡ false → allBelow n p ≡ false) → p n && allBelow n p ≡ false
+    by (yes b) ih = ap (λ (t : Bool). p n && t) (ih b e) ∙ and-false (p n)
+      where
+        and-false : (t : Bool) → t && false ≡ false
+        and-false true = refl
+        and-false false = refl
+    by (no b) ih = let m : k ≡ n = omega arith in ap (λ (t : Bool). t && allBelow n p) (sym (ap p m) ∙ e)
+
+module _ (bytes : List ℕ) where
+  pub last-above : 6 < lastByte bytes → paddingSuits bytes ≡ false
+  unfolding paddingSuits
+  last-above h =
+      ap (λ (b : Bool). b && allBelow (lastByte bytes) (λ k. eqb (getD bytes (length bytes - 2 - k) 0) 0)) (lt-leb (lastByte bytes) 6 h)
+
+  pub not-zero : (k : ℕ) → k < lastByte bytes → eqb (getD bytes (length bytes - 2 - k) 0) 0 ≡ false → paddingSuits bytes ≡ false
+  unfolding paddingSuits
+  not-zero k h e =
+      ap (λ (b : Bool). leb (lastByte bytes) 6 && b) (all-false (lastByte bytes) _ k h e) ∙ and-false (leb (lastByte bytes) 6)
+    where
+      and-false : (t : Bool) → t && false ≡ false
+      and-false true = refl
+      and-false false = refl
+
+  pub all-zero : lastByte bytes ≤ 6 → ((k : ℕ) → k < lastByte bytes → eqb (getD bytes (length bytes - 2 - k) 0) 0 ≡ true) → paddingSuits bytes ≡ true
+  unfolding paddingSuits
+  all-zero h e = ap₂ _&&_ (le-leb (lastByte bytes) 6 h) (all-true (lastByte bytes) _ e)

@@ -1,0 +1,33 @@
+-- `record6250::stray::lent_place` meets its contract.
+-- Assumes nothing.
+use mathlib.Core.Path.{_≡_, refl, sym, ap, ap₂, _∙_}
+use Prim.Native.Nat.{ℕ, zero, suc, _+_, _-_, _*_, _/_, _%_, _^_, _<_, _≤_}
+use native.Mathlib.Omega.{arith}
+use native.Mathlib.Numerals.{add-one}
+use denote.Ref.{now}
+use mathlib.Core.Bool.{Bool, true, false, cond, not, _&&_, _||_}
+use mathlib.Core.List.{List, _++_}
+use lib.Dec.{ltb, leb, eqb}
+use borrow.Author.Tests.{lt-ltb, le-ltb, eq-eqb, ne-eqb}
+use lib.ListN.{length, getD, take, drop, set, length-set}
+use Rattle.indexed.specs.List.{turnedPlace}
+use borrow.Author.Needs.{needs}
+use Rattle.record6250.proofs.stray.lent_place.Statement.{statement}
+use Rattle.record6250.proofs.stray.lent_place.Tie as tie
+
+sub-result : tie.Need-sub-result
+sub-result c = search needs
+
+sub-result-2 : tie.Need-sub-result-2
+sub-result-2 c = search needs
+
+returns : tie.Need-returns
+unfolding turnedPlace
+returns c = let args = c .before .args in sym (ap (λ (b : Bool). cond b (args .groups - 1 - args .g) (args .g)) (c .if1 .taken))
+
+returns-2 : tie.Need-returns-2
+unfolding turnedPlace
+returns-2 c = let args = c .before .args in sym (ap (λ (b : Bool). cond b (args .groups - 1 - args .g) (args .g)) (c .if1 .left))
+
+pub lent-place-spec : {M : Type 1} → statement M
+lent-place-spec = tie.close (tie.spec sub-result sub-result-2 returns returns-2)

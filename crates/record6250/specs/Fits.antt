@@ -1,0 +1,43 @@
+-- What fits a 6250 reading: the notice's third term, in terms of readings and written records only ("fits", "reading" and
+-- "written record" are document 01's terms).
+-- Assumes nothing.
+use mathlib.Core.Bool.{Bool, true, false}
+use mathlib.Core.List.{List}
+use mathlib.Core.Path.{_≡_}
+use Prim.Native.Nat.{ℕ, _*_, _<_, _≤_}
+use lib.ListN.{length, getD}
+use Rattle.indexed.specs.Differ.{differences}
+use Rattle.rectangular.specs.Correction.{Allowed}
+use Rattle.record6250.specs.Group.{pointed}
+use Rattle.record6250.specs.Picture.{groupRead, pictureWords}
+use Rattle.record6250.specs.Read.{readGroup, readMap, lengthsSuit, firstStray}
+use Rattle.record6250.specs.Record.{mostData, groupsFor, writtenRecord}
+
+-- data within the limits
+pub record IsData (bytes : List ℕ) : Type 0 where
+  pub within : length bytes ≤ mostData
+  pub are-bytes : (k : ℕ) → getD bytes k 0 < 256
+
+module _ (backward : Bool) (words maps : List ℕ) where
+  -- lengths and stray bits have passed
+  pub record Passes : Type 0 where
+    pub lengths : lengthsSuit (length words) (length maps) ≡ true
+    pub no-stray : firstStray backward words maps ≡ length maps
+
+  -- nine words fit group g of the reading: "in each group only the pointed tracks differ, two at most, or, with none pointed, one
+  -- track at most", where a track differs if its word does
+  unfoldable pub FitsGroup : ℕ → List ℕ → Type 0
+  FitsGroup g right =
+      Allowed 9 (pointed (readGroup backward words maps g) (readMap backward words maps g)) (λ k. getD (readGroup backward words maps g) k 0)
+      (λ k. getD right k 0)
+
+  -- the written record of these data fits: "the same number of groups", each of which fits
+  pub record Fits (bytes : List ℕ) : Type 0 where
+    pub are-data : IsData bytes
+    pub as-many : groupsFor (length bytes) ≡ length maps
+    pub each : (g : ℕ) → g < length maps → FitsGroup g (groupRead false (length maps) (writtenRecord bytes) g)
+
+  -- in how many words the reading's forward picture differs from the written record
+  unfoldable pub wordsChanged : List ℕ → ℕ
+  wordsChanged bytes =
+      differences (9 * length maps) (λ k. getD (pictureWords backward (length maps) words) k 0) (λ k. getD (writtenRecord bytes) k 0)

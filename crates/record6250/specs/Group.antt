@@ -1,0 +1,62 @@
+-- How a group of nine words is judged, with the drive's pointer map (document 01, "The 6250 group"; the notice, third term).
+-- Assumes nothing.
+use Prim.Native.Nat.{ℕ, zero, suc}
+use mathlib.Core.Bool.{Bool, true, false, cond, _||_}
+use mathlib.Core.List.{List, [], map}
+use lib.Bits.{bitOr}
+use lib.Dec.{eqb, ltb}
+use lib.ListN.{getD}
+use Rattle.indexed.specs.List.{tabulate, firstBelow}
+use Rattle.register.specs.Bit.{ofBits}
+use Rattle.answer.specs.declared.Reason.{Reason}
+use Rattle.answer.specs.declared.Reason.the-variants.{ManyPointed, NoGroup}
+use Rattle.group_code.specs.Code.{wordOf}
+use Rattle.group_code.specs.Word.{valueOf, illegality}
+use Rattle.rectangular.specs.Constants.{feedback, exponent}
+use Rattle.rectangular.specs.Correction.{pointedTracks, Judgement, corrected, manyPointed, noGroup, judged}
+use Rattle.rectangular.specs.Group.{informationOf}
+
+-- a bit beyond its width: in a word of ten bits, or in a map of nine
+unfoldable pub stray : List ℕ → ℕ → Bool
+stray words pointers = ltb (firstBelow 9 (λ k. ltb 1023 (getD words k 0))) 9 || ltb 511 pointers
+
+-- the tracks whose words are illegal, as a map
+unfoldable pub illegalMap : List ℕ → ℕ
+illegalMap words = ofBits (tabulate 9 (λ k. illegality (getD words k 0)))
+
+-- "A track is pointed by the drive or by an illegal code on it."
+unfoldable pub pointed : List ℕ → ℕ → ℕ
+pointed words pointers = bitOr pointers (illegalMap words)
+
+-- the judgement: the values of the group that fits, or why none does
+unfoldable pub judgedGroup : List ℕ → ℕ → Judgement
+judgedGroup words pointers =
+    judged 8 feedback exponent (λ k. valueOf (getD words k 0)) (pointedTracks 9 (pointed words pointers))
+
+unfoldable pub isCorrected : Judgement → Bool
+isCorrected (corrected values) = true
+isCorrected manyPointed = false
+isCorrected noGroup = false
+
+-- the values of the group that fits
+unfoldable pub rightValues : Judgement → List ℕ
+rightValues (corrected values) = values
+rightValues manyPointed = []
+rightValues noGroup = []
+
+-- why no group fits
+unfoldable pub reasonOf : Judgement → Reason
+reasonOf (corrected values) = NoGroup
+reasonOf manyPointed = ManyPointed
+reasonOf noGroup = NoGroup
+
+-- its seven bytes, and its words
+unfoldable pub rightBytes : Judgement → List ℕ
+rightBytes j = informationOf 8 (λ k. getD (rightValues j) k 0)
+
+unfoldable pub rightWords : Judgement → List ℕ
+rightWords j = map wordOf (rightValues j)
+
+-- the tracks in which two groups differ, as a map
+unfoldable pub changedMap : List ℕ → List ℕ → ℕ
+changedMap read right = ofBits (tabulate 9 (λ k. cond (eqb (getD read k 0) (getD right k 0)) 0 1))

@@ -1,0 +1,25 @@
+-- A 6250 reading and its forward picture (document 01, "The 6250 record" and "Backward"): nine words a group, tracks 0 to 8, and a
+-- pointer map a group, bit i for track i. Backward, groups and maps come last first, and each word's ten bits are reversed.
+-- Assumes nothing.
+use Prim.Native.Nat.{ℕ, _+_, _*_}
+use mathlib.Core.Bool.{Bool}
+use mathlib.Core.List.{List}
+use lib.ListN.{length, getD}
+use Rattle.indexed.specs.List.{tabulate, blocks, turnedPlace}
+use Rattle.group_code.specs.Word.{forwardWord}
+
+-- the words of group g
+unfoldable pub groupRead : Bool → ℕ → List ℕ → ℕ → List ℕ
+groupRead backward groups words g =
+    tabulate 9 (λ k. forwardWord backward (getD words (9 * turnedPlace backward groups g + k) 0))
+
+-- the drive's pointer map for group g
+unfoldable pub mapRead : Bool → ℕ → List ℕ → ℕ → ℕ
+mapRead backward groups maps g = getD maps (turnedPlace backward groups g) 0
+
+-- the forward picture
+unfoldable pub pictureWords : Bool → ℕ → List ℕ → List ℕ
+pictureWords backward groups words = blocks groups (groupRead backward groups words)
+
+unfoldable pub pictureMaps : Bool → List ℕ → List ℕ
+pictureMaps backward maps = tabulate (length maps) (mapRead backward (length maps) maps)

@@ -1,0 +1,80 @@
+-- What reading a 6250 record answers (document 01, "Where a call is turned down", from top to bottom), and the data.
+-- Assumes nothing.
+use Prim.Native.Nat.{ℕ, _-_, _*_}
+use mathlib.Core.Bool.{Bool, cond, not, _&&_}
+use mathlib.Core.List.{List, [], _∷_}
+use lib.Count.{ones}
+use lib.Dec.{eqb, leb, ltb}
+use lib.ListN.{length, getD, take}
+use Rattle.indexed.specs.List.{blocks, firstBelow, total}
+use Rattle.indexed.specs.Test.{allBelow}
+use Rattle.answer.specs.Answer.{Answer, delivered, refusedFor, toldRefusal}
+use Rattle.answer.specs.declared.Reason.the-variants.{Length, Space, StrayBits, Padding}
+use Rattle.rectangular.specs.Correction.{Judgement}
+use Rattle.record6250.specs.Group.{stray, judgedGroup, isCorrected, reasonOf, rightBytes, rightWords, changedMap}
+use Rattle.record6250.specs.Picture.{groupRead, mapRead}
+
+-- a record has 1 to 586 groups
+abbrev pub mostGroups : ℕ
+mostGroups = 586
+
+-- nine words and one map for each group
+unfoldable pub lengthsSuit : ℕ → ℕ → Bool
+lengthsSuit words maps = (ltb 0 maps && leb maps mostGroups) && eqb words (9 * maps)
+
+-- the padding rule, of the corrected bytes: the last is not above 6, and as many bytes before it as it says are zero
+unfoldable pub lastByte : List ℕ → ℕ
+lastByte bytes = getD bytes (length bytes - 1) 0
+
+unfoldable pub paddingSuits : List ℕ → Bool
+paddingSuits bytes = leb (lastByte bytes) 6 && allBelow (lastByte bytes) (λ k. eqb (getD bytes (length bytes - 2 - k) 0) 0)
+
+-- what stands before the padding
+unfoldable pub unpadded : List ℕ → List ℕ
+unpadded bytes = take (length bytes - 1 - lastByte bytes) bytes
+
+module _ (backward : Bool) (words maps : List ℕ) where
+  -- group g: its words, its map, its judgement, and the tracks whose words differ from those of the group that fits
+  unfoldable pub readGroup : ℕ → List ℕ
+  readGroup g = groupRead backward (length maps) words g
+
+  unfoldable pub readMap : ℕ → ℕ
+  readMap g = mapRead backward (length maps) maps g
+
+  unfoldable pub judgement : ℕ → Judgement
+  judgement g = judgedGroup (readGroup g) (readMap g)
+
+  unfoldable pub changedTracks : ℕ → ℕ
+  changedTracks g = changedMap (readGroup g) (rightWords (judgement g))
+
+  -- the first group with a stray bit, and the first that no group of the code fits; or the number of groups
+  unfoldable pub firstStray : ℕ
+  firstStray = firstBelow (length maps) (λ g. stray (readGroup g) (readMap g))
+
+  unfoldable pub firstUnfit : ℕ
+  firstUnfit = firstBelow (length maps) (λ g. not (isCorrected (judgement g)))
+
+  -- the bytes of all groups, and the data among them
+  unfoldable pub readBody : List ℕ
+  readBody = blocks (length maps) (λ g. rightBytes (judgement g))
+
+  unfoldable pub readData : List ℕ
+  readData = unpadded readBody
+
+  -- how many words of the reading differ from the record
+  unfoldable pub changes : ℕ
+  changes = total (length maps) (λ g. ones (changedTracks g))
+
+  -- the answer, once lengths, space and stray bits have passed
+  unfoldable pub judgedAnswer : Answer
+  judgedAnswer =
+      cond (ltb firstUnfit (length maps)) (refusedFor (reasonOf (judgement firstUnfit)) firstUnfit)
+      (cond (paddingSuits readBody) (delivered (length readData ∷ changes ∷ [])) (refusedFor Padding 0))
+
+  unfoldable pub readAnswer : ℕ → Answer
+  readAnswer space =
+      cond (lengthsSuit (length words) (length maps))
+      (cond (leb (7 * length maps - 1) space)
+      (cond (ltb firstStray (length maps)) (refusedFor StrayBits firstStray) judgedAnswer)
+      (refusedFor Space 0))
+      (refusedFor Length 0)

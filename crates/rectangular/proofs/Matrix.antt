@@ -1,0 +1,82 @@
+-- A matrix in a number times a byte: masks pick its columns, and a linear function is the matrix of its values at the places.
+-- Assumes nothing.
+use mathlib.Core.Path.{_≡_, sym, ap, _∙_}
+use mathlib.Core.List.{List}
+use Prim.Native.Nat.{ℕ, _+_, _*_, _/_, _%_, _^_, _<_}
+use native.Mathlib.Nat.{mod-eq-of-lt, zero-mul, one-mul}
+use native.Mathlib.Omega.{arith}
+use lib.Bits.{bitAnd, and-comm, and-mask, and-shr, and-mod}
+use Rattle.indexed.specs.List.{tabulate, tabulateFrom}
+use Rattle.indexed.proofs.Test.{equal₂}
+use Rattle.register.specs.Bit.{bit, ofBits}
+use Rattle.register.specs.Shift.{shifts}
+use Rattle.register.proofs.Bit.{bit-lt}
+use Rattle.register.proofs.Linear.{Linear, linear-expanded}
+use Rattle.register.proofs.Shift.{shifts-xor}
+use Rattle.register.proofs.Sum.{sum-ext, sum-xor}
+use Rattle.register.proofs.Xor.{digit-ind}
+use Rattle.tables.specs.Rule.{spreadOf}
+use Rattle.rectangular.specs.Correction.{erasure}
+use Rattle.rectangular.specs.Group.{column}
+use Rattle.rectangular.specs.Packed.{byteAt, bytesOf, parityByte, productOf}
+use Rattle.rectangular.proofs.Bytes.{byte-lt, byte-of, bytes-ext}
+
+-- ---- masks
+
+-- rows and columns of one byte exchanged: its bits spread. A test of every byte.
+spread-column : (x j : ℕ) → x < 256 → j < 8 → byteAt j (spreadOf x) ≡ column 8 (λ i. byteAt i x) j
+unfolding byteAt column tabulate tabulateFrom ofBits bit
+spread-column = equal₂ 256 8 (λ x j. byteAt j (spreadOf x)) (λ x j. column 8 (λ i. byteAt i x) j) tt
+
+pub masks-fit : (x : ℕ) → spreadOf x * 255 < 2 ^ 64
+masks-fit x = omega arith
+
+pub transposed-byte : (x r : ℕ) → x < 256 → r < 2 ^ 64 → bytesOf r ≡ tabulate 8 (column 8 (λ j. byteAt j x)) → r ≡ spreadOf x
+transposed-byte x r hx hr e =
+    bytes-ext r (spreadOf x) hr (omega (arith, masks-fit x))
+    (λ k h. byte-of r (column 8 (λ j. byteAt j x)) e k h ∙ sym (spread-column x k hx h))
+
+mask-byte : (x k : ℕ) → x < 256 → k < 8 → byteAt k (spreadOf x * 255) ≡ bit k x * 255
+unfolding byteAt bit
+mask-byte = equal₂ 256 8 (λ x k. byteAt k (spreadOf x * 255)) (λ x k. bit k x * 255) tt
+
+and-byte : (k a b : ℕ) → byteAt k (bitAnd a b) ≡ bitAnd (byteAt k a) (byteAt k b)
+unfolding byteAt
+and-byte k a b =
+    ap (λ (x : ℕ). x % 256) (and-shr a b (8 * k)) ∙ and-mod (a / 2 ^ (8 * k)) (b / 2 ^ (8 * k)) 8
+
+-- a mask of a whole byte, or of nothing
+masked : (d b : ℕ) → d < 2 → b < 256 → bitAnd (d * 255) b ≡ d * b
+masked d b hd hb =
+    digit-ind (λ (d : ℕ). bitAnd (d * 255) b ≡ d * b) (sym (zero-mul b))
+    (and-comm 255 b ∙ and-mask b 8 ∙ mod-eq-of-lt hb ∙ sym (one-mul b)) d hd
+
+pub masks-pick : (columns x : ℕ) → x < 256 → parityByte (bitAnd (spreadOf x * 255) columns) ≡ productOf columns x
+unfolding parityByte productOf
+masks-pick columns x h =
+    sum-ext 8 _ _
+    (λ k b. and-byte k (spreadOf x * 255) columns
+    ∙ ap (λ (m : ℕ). bitAnd m (byteAt k columns)) (mask-byte x k h b)
+    ∙ masked (bit k x) (byteAt k columns) (bit-lt k x) (byte-lt k columns))
+
+-- ---- a linear function as a matrix
+
+pub product-linear : (F : ℕ → ℕ) → Linear 8 F → (columns : ℕ) → bytesOf columns ≡ tabulate 8 (λ k. F (2 ^ k))
+    → (x : ℕ) → x < 256 → productOf columns x ≡ F x
+unfolding productOf
+product-linear F linear columns e x h =
+    sum-ext 8 _ _ (λ k b. ap (λ (c : ℕ). bit k x * c) (byte-of columns (λ k. F (2 ^ k)) e k b))
+    ∙ sym (linear-expanded 8 F linear x h)
+
+pub shifts-linear : (w f k : ℕ) → f < 2 ^ w → Linear w (shifts w f k)
+shifts-linear w f k hf a b ha hb = shifts-xor w f k a b hf ha hb
+
+pub erasure-linear : (w f n d : ℕ) → f < 2 ^ w → Linear w (erasure w f n d)
+unfolding erasure
+erasure-linear w f n d hf a b ha hb =
+    sum-ext (n / 2) _ _ (λ k _. shifts-xor w f (d * (2 * k + 1)) a b hf ha hb)
+    ∙ sum-xor (n / 2) (λ k. shifts w f (d * (2 * k + 1)) a) (λ k. shifts w f (d * (2 * k + 1)) b)
+
+-- the columns at a number that is known
+pub at-known : (f : ℕ → List ℕ) (d n : ℕ) {l : List ℕ} → d ≡ n → l ≡ f n → l ≡ f d
+at-known f d n e same = same ∙ ap f (sym e)

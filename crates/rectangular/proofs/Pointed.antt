@@ -1,0 +1,37 @@
+-- The tracks that a map points at are those whose bit is 1.
+-- Assumes nothing.
+use mathlib.Core.Path.{_≡_, sym, ap, subst}
+use mathlib.Core.Logic.{_⊎_, inl, inr}
+use mathlib.Core.List.{List}
+use Prim.Native.Nat.{ℕ, _<_}
+use native.Mathlib.Omega.{arith}
+use borrow.Author.Tests.{eqb-true, eq-eqb}
+use lib.Dec.{eqb}
+use lib.ListN.{length, getD}
+use Rattle.indexed.proofs.Keep.{Kept, kept-below}
+use Rattle.register.specs.Bit.{bit}
+use Rattle.register.proofs.Bit.{bit-lt}
+use Rattle.register.proofs.Xor.{digit}
+use Rattle.rectangular.specs.Correction.{pointedTracks}
+
+module _ (n pointers : ℕ) (l : List ℕ) (is : pointedTracks n pointers ≡ l) where
+  kept : Kept (λ k. eqb (bit k pointers) 1) 0 n l
+  unfolding pointedTracks
+  kept = subst (Kept (λ k. eqb (bit k pointers) 1) 0 n) is (kept-below (λ k. eqb (bit k pointers) 1) n)
+
+  pub pointed-lt : (t : ℕ) → t < length l → getD l t 0 < n
+  pointed-lt = kept .under
+
+  pub pointed-ascends : (i j : ℕ) → i < j → j < length l → getD l i 0 < getD l j 0
+  pointed-ascends = kept .ascending
+
+  -- a track that is not pointed is none of them, and one that is none of them is not pointed
+  pub pointed-bit : (t : ℕ) → t < length l → (k : ℕ) → bit k pointers ≡ 0 → k ≡ getD l t 0 → ⊥
+  pointed-bit t h k z e = omega (arith, ap (λ (j : ℕ). bit j pointers) e, eqb-true (bit (getD l t 0) pointers) 1 (kept .passes t h))
+
+  pub outside : (k : ℕ) → k < n → ((t : ℕ) → t < length l → k ≡ getD l t 0 → ⊥) → bit k pointers ≡ 0
+  outside k h none = by (digit (bit k pointers) (bit-lt k pointers))
+    where
+      by : (bit k pointers ≡ 0) ⊎ (bit k pointers ≡ 1) → bit k pointers ≡ 0
+      by (inl e) = e
+      by (inr e) = let c = kept .complete k (omega arith) h (eq-eqb (bit k pointers) 1 e) in absurd (none (c .0) (c .1) (sym (c .2)))

@@ -1,0 +1,82 @@
+// Products of matrices of eight by eight bits with a byte: those of equations (20) and (21) of document
+// 000, which give the errors of two tracks. A matrix is its eight columns in one number, column k, which
+// is the product with 2^k, in byte k.
+use crate::group::parity;
+use crate::transpose::transposed;
+use tables::reduced;
+ghost use mathlib.Core.Path.{_≡_};
+ghost use Prim.Native.Nat.{_-_, _^_, _<_, _≤_};
+ghost use Rattle.indexed.specs.List.{tabulate};
+ghost use Rattle.register.specs.Shift.{shifts};
+ghost use Rattle.rectangular.specs.Constants.{feedback, exponent};
+ghost use Rattle.rectangular.specs.Correction.{erasure};
+ghost use Rattle.rectangular.specs.Packed.{bytesOf, productOf};
+
+// A matrix times a byte: the sum of the columns that the ones of x pick. The bits of x come to stand
+// alone in a byte each, and times 255 they are masks of whole columns.
+fn applied(columns: u64, x: u8) -> u8
+    ensures { λ r. ⌜ r ≡ productOf columns x ⌝ }
+{
+    let masks = transposed(x as u64) * 255;
+    parity(masks & columns)
+}
+
+// The inverse of I + T^d, of equation (21).
+fn erasure_columns(d: usize) -> u64
+    requires { ⌜ (1 ≤ d) × (d ≤ 7) ⌝ }
+    ensures { λ r. ⌜ bytesOf r ≡ tabulate 8 (λ k. erasure 8 feedback exponent d (2 ^ k)) ⌝ }
+{
+    match d {
+        1 => 0x97D7F7E7EFEBE9E8,
+        2 => 0x9A4DBA5DB259B058,
+        3 => 0x318442218C46238D,
+        4 => 0xC5FE7FA3CDFA7DA2,
+        5 => 0x48241209984C2613,
+        6 => 0xEE77A7CFFBE1EC76,
+        _ => 0x3C1E0F9BD1F47A3D,
+    }
+}
+
+// T to the power -i, of equations (20) and (21).
+fn backward_columns(i: usize) -> u64
+    requires { ⌜ i < 8 ⌝ }
+    ensures { λ r. ⌜ bytesOf r ≡ tabulate 8 (λ k. shifts 8 feedback (exponent - i) (2 ^ k)) ⌝ }
+{
+    match i {
+        0 => 0x8040201008040201,
+        1 => 0x402010080402019C,
+        2 => 0x2010080402019C4E,
+        3 => 0x10080402019C4E27,
+        4 => 0x080402019C4E278F,
+        5 => 0x0402019C4E278FDB,
+        6 => 0x02019C4E278FDBF1,
+        _ => 0x019C4E278FDBF1E4,
+    }
+}
+
+// The inverse of I + T^d times x.
+pub fn erasure_product(d: usize, x: u8) -> u8
+    requires { ⌜ (1 ≤ d) × (d ≤ 7) ⌝ }
+    ensures { λ r. ⌜ r ≡ erasure 8 feedback exponent d x ⌝ }
+{
+    applied(erasure_columns(d), x)
+}
+
+// T^-i times x.
+pub fn backward_power(i: usize, x: u8) -> u8
+    requires { ⌜ i < 8 ⌝ }
+    ensures { λ r. ⌜ r ≡ shifts 8 feedback (exponent - i) x ⌝ }
+{
+    applied(backward_columns(i), x)
+}
+
+// T^i times x, of equation (14): X^i x, of which the part above eight bits is reduced.
+pub fn forward_power(i: usize, x: u8) -> u8
+    requires { ⌜ i < 8 ⌝ }
+    ensures { λ r. ⌜ r ≡ shifts 8 feedback i x ⌝ }
+{
+    let moved = (x as u16) << i;
+    let low = (moved % 256) as u8;
+    let high = (moved / 256) as u8;
+    low ^ reduced(high)
+}
