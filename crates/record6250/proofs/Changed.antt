@@ -10,7 +10,7 @@ use lib.ListN.{getD}
 use Rattle.indexed.specs.Differ.{differences}
 use Rattle.indexed.proofs.Total.{differences-total}
 use Rattle.register.proofs.Ones.{ones-of-bits, tabulated-lt}
-use Rattle.record6250.specs.Group.{changedMap}
+use Rattle.rectangular.specs.Judged.{changedMap}
 
 digit : (b : Bool) → cond b 0 1 < 2
 digit true = lit< tt

@@ -60,14 +60,14 @@ pub tracks-group : (info : List ℕ) → Below 8 info → IsGroup 8 feedback (tr
 tracks-group = written-is-group 8 feedback (nine-tracks .positive) (nine-tracks .fits)
 
 -- two equations that are true together have the same test
-same-test : (a b c d : ℕ) → (a ≡ b → c ≡ d) → (c ≡ d → a ≡ b) → eqb a b ≡ eqb c d
+pub same-test : (a b c d : ℕ) → (a ≡ b → c ≡ d) → (c ≡ d → a ≡ b) → eqb a b ≡ eqb c d
 same-test a b c d to from = by (eqb a b) refl
   where
     by : (t : Bool) → eqb a b ≡ t → t ≡ eqb c d
     by true e = sym (eq-eqb c d (to (eqb-true a b e)))
     by false e = sym (ne-eqb c d (λ q. eqb-false a b e (from q)))
 
-illegality-lt : (word : ℕ) → illegality word < 2
+pub illegality-lt : (word : ℕ) → illegality word < 2
 unfolding illegality
 illegality-lt word = by (legalWord word)
   where

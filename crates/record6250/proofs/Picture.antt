@@ -24,7 +24,7 @@ unfolding turnedPlace
 turned-lt true n g h = omega arith
 turned-lt false n g h = h
 
-turned-twice : (backward : Bool) (n g : ℕ) → g < n → turnedPlace backward n (turnedPlace backward n g) ≡ g
+pub turned-twice : (backward : Bool) (n g : ℕ) → g < n → turnedPlace backward n (turnedPlace backward n g) ≡ g
 unfolding turnedPlace
 turned-twice true n g h = omega arith
 turned-twice false n g h = refl

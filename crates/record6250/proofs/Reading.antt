@@ -5,8 +5,8 @@ use mathlib.Core.Bool.{Bool, true, false, _&&_, _||_, false≢true}
 use mathlib.Core.List.{List}
 use Prim.Native.Nat.{ℕ, _-_, _*_, _<_, _≤_}
 use native.Mathlib.Omega.{arith}
-use borrow.Author.Tests.{ltb-true, ltb-false, leb-true}
-use lib.Dec.{leb, ltb}
+use borrow.Author.Tests.{ltb-true, ltb-false, leb-true, eqb-true}
+use lib.Dec.{eqb, leb, ltb}
 use lib.ListN.{length, getD, drop, length-drop}
 use lib.Seq.{ext-getD, length-take-le}
 use Rattle.indexed.specs.List.{firstBelow, turnedPlace}
@@ -32,6 +32,10 @@ right-true : (a b : Bool) → (a && b) ≡ true → b ≡ true
 right-true true b e = e
 right-true false b e = absurd (false≢true e)
 
+right-false : (a b : Bool) → (a || b) ≡ false → b ≡ false
+right-false true b e = absurd (false≢true (sym e))
+right-false false b e = e
+
 left-false : (a b : Bool) → (a || b) ≡ false → a ≡ false
 left-false true b e = e
 left-false false b e = refl
@@ -42,19 +46,38 @@ words-in-bounds words pointers e k h =
     let all : 9 ≤ firstBelow 9 (λ k. ltb 1023 (getD words k 0)) = ltb-false _ 9 (left-false _ (ltb 511 pointers) e) in
     omega (arith, ltb-false 1023 (getD words k 0) (first-below-before 9 (λ k. ltb 1023 (getD words k 0)) k (omega arith)))
 
+map-in-bounds : (words : List ℕ) (pointers : ℕ) → stray words pointers ≡ false → pointers < 512
+unfolding stray
+map-in-bounds words pointers e = omega (arith, ltb-false 511 pointers (right-false (ltb (firstBelow 9 (λ k. ltb 1023 (getD words k 0))) 9) (ltb 511 pointers) e))
+
+pub lengths-told : (n m : ℕ) → lengthsSuit n m ≡ true → (0 < m) × (m ≤ 586) × (n ≡ 9 * m)
+unfolding lengthsSuit
+lengths-told n m e =
+    let both = left-true (ltb 0 m && leb m 586) (eqb n (9 * m)) e in (
+      ltb-true 0 m (left-true (ltb 0 m) (leb m 586) both),
+      leb-true m 586 (right-true (ltb 0 m) (leb m 586) both),
+      eqb-true n (9 * m) (right-true (ltb 0 m && leb m 586) (eqb n (9 * m)) e),
+    )
+
 module _ (backward : Bool) (words maps : List ℕ) (passes : Passes backward words maps) where
+  pub words-long : length words ≡ 9 * length maps
+  words-long = lengths-told (length words) (length maps) (passes .lengths) .2
+
+  none-stray-at : (g : ℕ) → g < length maps → stray (readGroup backward words maps g) (readMap backward words maps g) ≡ false
+  unfolding firstStray
+  none-stray-at g h =
+      first-below-before (length maps) (λ g. stray (readGroup backward words maps g) (readMap backward words maps g)) g
+      (omega (arith, passes .no-stray))
+
+  pub map-below : (g : ℕ) → g < length maps → readMap backward words maps g < 512
+  map-below g h = map-in-bounds (readGroup backward words maps g) (readMap backward words maps g) (none-stray-at g h)
+
   pub groups-within : (0 < length maps) × (length maps ≤ 586)
-  unfolding lengthsSuit
   groups-within =
-      let both = left-true (ltb 0 (length maps) && leb (length maps) 586) _ (passes .lengths) in
-      (ltb-true _ _ (left-true (ltb 0 (length maps)) _ both), leb-true _ _ (right-true (ltb 0 (length maps)) _ both))
+      let told = lengths-told (length words) (length maps) (passes .lengths) in (told .0, told .1)
 
   pub words-below : (g : ℕ) → g < length maps → (k : ℕ) → k < 9 → getD (readGroup backward words maps g) k 0 < 1024
-  unfolding firstStray
-  words-below g h =
-      words-in-bounds (readGroup backward words maps g) (readMap backward words maps g)
-      (first-below-before (length maps) (λ g. stray (readGroup backward words maps g) (readMap backward words maps g)) g
-      (omega (arith, passes .no-stray)))
+  words-below g h = words-in-bounds (readGroup backward words maps g) (readMap backward words maps g) (none-stray-at g h)
 
 pub length-read : (backward : Bool) (n : ℕ) (words : List ℕ) (g : ℕ) → length (groupRead backward n words g) ≡ 9
 unfolding groupRead

@@ -17,19 +17,12 @@ use Rattle.register.specs.Bit.{ofBits}
 use Rattle.register.proofs.Ones.{tabulated-lt}
 use Rattle.group_code.specs.Word.{valueOf, illegality, legalWord, forwardWord}
 use Rattle.group_code.proofs.Words.{value-lt}
-use Rattle.rectangular.specs.Packed.{byteAt, valuesOf}
+use Rattle.rectangular.specs.Packed.{byteAt, valuesOf, placedAt}
 use Rattle.record6250.specs.Group.{illegalMap}
-use Rattle.record6250.specs.Received.{receivedValues, packed, placedAt}
+use Rattle.record6250.specs.Received.{receivedValues, packed}
 use Rattle.record6250.specs.declared.received.Received.{Received}
+use Rattle.record6250.proofs.FittingGroup.{illegality-lt}
 use Rattle.record6250.proofs.Packing.{packed-lt, byte-packed, bits-more}
-
-pub illegality-lt : (word : ℕ) → illegality word < 2
-unfolding illegality
-illegality-lt word = by (legalWord word)
-  where
-    by : (b : Bool) → cond b 0 1 < 2
-    by true = omega arith
-    by false = omega arith
 
 -- the value and the mark of a word that was read
 pub value-part : (word read : ℕ) → read ≡ valueOf word + 256 * illegality word → read % 256 ≡ valueOf word

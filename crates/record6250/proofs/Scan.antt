@@ -47,7 +47,7 @@ module _ (words : List ℕ) (at pointers : ℕ) where
       ap (λ (n : ℕ). ltb n 9 || ltb 511 pointers) (first-below-none 9 (λ k. ltb 1023 (getD words (at + k) 0)) none)
 
 -- a word turned has stray bits if it had them
-forward-above : (backward : Bool) (word : ℕ) → ltb 1023 (forwardWord backward word) ≡ ltb 1023 word
+pub forward-above : (backward : Bool) (word : ℕ) → ltb 1023 (forwardWord backward word) ≡ ltb 1023 word
 unfolding forwardWord
 forward-above true word = by (decLt word 1024)
   where

@@ -7,7 +7,7 @@ use native.Mathlib.Nat.{mul-comm}
 use borrow.Rule.Slice.PartMut.{putMid}
 use lib.ListN.{length, take, drop}
 use lib.Seq.{getD-take}
-use Rattle.indexed.proofs.Blocks.{length-blocks, stored-more}
+use Rattle.indexed.proofs.Blocks.{length-blocks, stored, stored-more}
 use Rattle.indexed.proofs.Part.{part-to-end, part-back}
 use Rattle.group_code.specs.Code.{wordOf}
 use Rattle.rectangular.specs.Constants.{feedback}
@@ -29,17 +29,25 @@ full-words bytes values g h e =
     ∙ group-front 8 feedback (drop (7 * g) bytes) (take 7 (drop (7 * g) bytes)) (λ k b. sym (getD-take 7 (drop (7 * g) bytes) k 0 b))
     ∙ ap (group 8 feedback) (sym (full-group bytes g h)))
 
+-- a list stored in the part of the output that begins where the others end
+pub next-stored : (size : ℕ) (f : ℕ → List ℕ) → ((k : ℕ) → length (f k) ≡ size) → (g : ℕ) (output whole part next : List ℕ)
+    → whole ≡ stored size g f output → next ≡ f g → part ≡ next ++ drop size (take (length whole - g * size) (drop (g * size) whole))
+    → putMid (g * size) (length whole - g * size) whole part ≡ stored size (g + 1) f output
+next-stored size f long g output whole part next is-whole is-next lent =
+    part-back (g * size) whole part
+    ∙ ap (λ (p : List ℕ). take (g * size) whole ++ p)
+    (lent ∙ ap₂ (λ (w r : List ℕ). w ++ drop size r) is-next (part-to-end (g * size) whole))
+    ∙ ap₂ (λ (n : ℕ) (w : List ℕ). take n w ++ (f g ++ drop size (drop n w))) (mul-comm g size) is-whole
+    ∙ stored-more size g f output (λ k h. long k)
+
 module _ (bytes output : List ℕ) (g : ℕ) where
   pub one-more : (words part nine : List ℕ) → words ≡ groupsStored g bytes output → nine ≡ groupWords (groupBytes g (body bytes))
       → part ≡ nine ++ drop 9 (take (length words - g * 9) (drop (g * 9) words))
       → putMid (g * 9) (length words - g * 9) words part ≡ groupsStored (g + 1) bytes output
   unfolding groupsStored firstGroups
   one-more words part nine whole are lent =
-      let place : g * 9 ≡ 9 * g = mul-comm g 9 in
-      part-back (g * 9) words part
-      ∙ ap (λ (p : List ℕ). take (g * 9) words ++ p) (lent ∙ ap₂ (λ (w r : List ℕ). w ++ drop 9 r) are (part-to-end (g * 9) words))
-      ∙ ap₂ (λ (n : ℕ) (w : List ℕ). take n w ++ (groupWords (groupBytes g (body bytes)) ++ drop 9 (drop n w))) place whole
-      ∙ stored-more 9 g (λ g. groupWords (groupBytes g (body bytes))) output (λ k h. length-groupWords (groupBytes k (body bytes)))
+      next-stored 9 (λ g. groupWords (groupBytes g (body bytes))) (λ k. length-groupWords (groupBytes k (body bytes))) g output words part nine
+      whole are lent
 
 pub length-record : (bytes : List ℕ) → length (writtenRecord bytes) ≡ 9 * groupsFor (length bytes)
 unfolding writtenRecord firstGroups

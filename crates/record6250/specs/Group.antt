@@ -1,10 +1,10 @@
 -- How a group of nine words is judged, with the drive's pointer map (document 01, "The 6250 group"; the notice, third term).
 -- Assumes nothing.
 use Prim.Native.Nat.{ℕ, zero, suc}
-use mathlib.Core.Bool.{Bool, true, false, cond, _||_}
+use mathlib.Core.Bool.{Bool, true, false, _||_}
 use mathlib.Core.List.{List, [], map}
 use lib.Bits.{bitOr}
-use lib.Dec.{eqb, ltb}
+use lib.Dec.{ltb}
 use lib.ListN.{getD}
 use Rattle.indexed.specs.List.{tabulate, firstBelow}
 use Rattle.register.specs.Bit.{ofBits}
@@ -56,7 +56,3 @@ rightBytes j = informationOf 8 (λ k. getD (rightValues j) k 0)
 
 unfoldable pub rightWords : Judgement → List ℕ
 rightWords j = map wordOf (rightValues j)
-
--- the tracks in which two groups differ, as a map
-unfoldable pub changedMap : List ℕ → List ℕ → ℕ
-changedMap read right = ofBits (tabulate 9 (λ k. cond (eqb (getD read k 0) (getD right k 0)) 0 1))

@@ -6,3 +6,4 @@ pub mod Read
 pub mod Fits
 pub mod Received
 pub mod Stray
+pub mod Told

@@ -11,7 +11,8 @@ use Rattle.indexed.specs.Test.{allBelow}
 use Rattle.answer.specs.Answer.{Answer, delivered, refusedFor, toldRefusal}
 use Rattle.answer.specs.declared.Reason.the-variants.{Length, Space, StrayBits, Padding}
 use Rattle.rectangular.specs.Correction.{Judgement}
-use Rattle.record6250.specs.Group.{stray, judgedGroup, isCorrected, reasonOf, rightBytes, rightWords, changedMap}
+use Rattle.rectangular.specs.Judged.{changedMap}
+use Rattle.record6250.specs.Group.{stray, judgedGroup, isCorrected, reasonOf, rightBytes, rightWords}
 use Rattle.record6250.specs.Picture.{groupRead, mapRead}
 
 -- a record has 1 to 586 groups

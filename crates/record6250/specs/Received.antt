@@ -1,9 +1,7 @@
 -- A group as the code receives it.
 -- Assumes nothing.
 use Prim.Native.Nat.{ℕ, zero, suc, _+_, _*_, _^_}
-use mathlib.Core.Bool.{cond}
 use mathlib.Core.List.{List}
-use lib.Dec.{ltb}
 use Rattle.rectangular.specs.Packed.{valuesOf}
 use Rattle.record6250.specs.declared.received.Received.{Received}
 
@@ -15,7 +13,3 @@ receivedValues r = valuesOf (record { tracks = r .tracks; parity = r .parity })
 unfoldable pub packed : ℕ → ℕ → (ℕ → ℕ) → ℕ
 packed s zero v = zero
 packed s (suc n) v = packed s n v + v n * 2 ^ (s * n)
-
--- a value where it stands among tracks 0 to 7
-unfoldable pub placedAt : ℕ → ℕ → ℕ
-placedAt track value = cond (ltb track 8) (value * 2 ^ (8 * track)) 0

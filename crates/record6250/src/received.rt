@@ -1,29 +1,18 @@
 // A group as it is received: the values of its nine words, and which of them are illegal.
+use rectangular::group::placed;
 ghost use mathlib.Core.Path.{_≡_};
 ghost use Prim.Native.Nat.{ℕ, _+_, _<_, _≤_};
 ghost use lib.ListN.{length, getD};
 ghost use Rattle.indexed.specs.List.{tabulate};
 ghost use Rattle.group_code.specs.Word.{valueOf, forwardWord};
 ghost use Rattle.record6250.specs.Group.{illegalMap};
-ghost use Rattle.record6250.specs.Received.{receivedValues, placedAt};
+ghost use Rattle.record6250.specs.Received.{receivedValues};
 
 // Tracks 0 to 7, track j in bits 8j to 8j + 7, the parity track, and the tracks with an illegal word.
 pub(crate) struct Received {
     pub tracks: u64,
     pub parity: u8,
     pub illegal: u16,
-}
-
-// A value where it stands among the tracks 0 to 7.
-fn placed(track: usize, value: u8) -> u64
-    requires { ⌜ track < 9 ⌝ }
-    ensures { λ r. ⌜ r ≡ placedAt track value ⌝ }
-{
-    if track < 8 {
-        (value as u64) << (8 * track)
-    } else {
-        0
-    }
 }
 
 // Receives the nine words from an index on.

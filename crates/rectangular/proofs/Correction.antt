@@ -28,7 +28,7 @@ use Rattle.rectangular.proofs.Distance.{two-tracks, three-tracks}
 use Rattle.rectangular.proofs.Equations.{group-ext}
 use Rattle.rectangular.proofs.Pointed.{pointed-lt, pointed-ascends, pointed-bit, outside}
 use Rattle.rectangular.proofs.Suits.{nine-tracks}
-use Rattle.rectangular.proofs.Syndrome.{untouched, parity-lt, check-lt, mends-one, mends-two, second-lt, second-accounts, accounts}
+use Rattle.rectangular.proofs.Syndrome.{untouched, parity-lt, check-lt, corrects-one, corrects-two, second-lt, second-accounts, accounts}
 
 -- a track that is neither of two is none of their list by index, and so with one
 neither : (i j k : ℕ) → (k ≡ i → ⊥) → (k ≡ j → ⊥) → (t : ℕ) → t < 2 → k ≡ getD (i ∷ j ∷ []) t 0 → ⊥
@@ -50,23 +50,23 @@ module _ (w f : ℕ) (v : ℕ → ℕ) where
   abbrev found : List ℕ → ℕ
   found tracks = getD tracks (firstWhere fitting tracks) 0
 
-  abbrev mended : List ℕ → ℕ → ℕ
-  mended tracks j = v j ⊕ errorAt (found tracks) (paritySyndrome w v) j
+  abbrev right : List ℕ → ℕ → ℕ
+  right tracks j = v j ⊕ errorAt (found tracks) (paritySyndrome w v) j
 
   one-not-many : (tracks : List ℕ) → oneTrack w f v tracks ≡ manyPointed → ⊥
   unfolding oneTrack
   one-not-many tracks = by (ltb (firstWhere fitting tracks) (length tracks))
     where
-      by : (b : Bool) → cond b (corrected (tabulate (suc w) (mended tracks))) noGroup ≡ manyPointed → ⊥
+      by : (b : Bool) → cond b (corrected (tabulate (suc w) (right tracks))) noGroup ≡ manyPointed → ⊥
       by true e = let z : _≡_ {A = ℕ} 0 1 = cc in omega arith
       by false e = let z : _≡_ {A = ℕ} 0 1 = cc in omega arith
 
   module _ (s : Suits w f) (bounds : (k : ℕ) → k ≤ w → v k < 2 ^ w) where
     -- u is a group that differs from what was read in tracks i and j at most
-    abbrev Mends : ℕ → ℕ → List ℕ → Type 0
-    Mends i j u = (length u ≡ suc w) × IsGroup w f (λ k. getD u k 0) × AgreeBut (suc w) v (λ k. getD u k 0) i j
+    abbrev Corrects : ℕ → ℕ → List ℕ → Type 0
+    Corrects i j u = (length u ≡ suc w) × IsGroup w f (λ k. getD u k 0) × AgreeBut (suc w) v (λ k. getD u k 0) i j
 
-    tabulated : (i j : ℕ) (h : ℕ → ℕ) → IsGroup w f h → AgreeBut (suc w) v h i j → Mends i j (tabulate (suc w) h)
+    tabulated : (i j : ℕ) (h : ℕ → ℕ) → IsGroup w f h → AgreeBut (suc w) v h i j → Corrects i j (tabulate (suc w) h)
     tabulated i j h g a = (
       length-tabulate (suc w) h,
       group-ext w f h _ (λ k b. sym (getD-tabulate (suc w) h k 0 (omega arith))) g,
@@ -74,21 +74,21 @@ module _ (w f : ℕ) (v : ℕ → ℕ) where
     )
 
     one-sound : (tracks : List ℕ) → ((t : ℕ) → t < length tracks → getD tracks t 0 ≤ w) → (u : List ℕ) → oneTrack w f v tracks ≡ corrected u
-        → (t : ℕ) × (t < length tracks) × Mends (getD tracks t 0) (getD tracks t 0) u
+        → (t : ℕ) × (t < length tracks) × Corrects (getD tracks t 0) (getD tracks t 0) u
     unfolding oneTrack
     one-sound tracks within u = by (ltb (firstWhere fitting tracks) (length tracks)) refl
       where
         by : (b : Bool) → ltb (firstWhere fitting tracks) (length tracks) ≡ b
-            → cond b (corrected (tabulate (suc w) (mended tracks))) noGroup ≡ corrected u
-            → (t : ℕ) × (t < length tracks) × Mends (getD tracks t 0) (getD tracks t 0) u
+            → cond b (corrected (tabulate (suc w) (right tracks))) noGroup ≡ corrected u
+            → (t : ℕ) × (t < length tracks) × Corrects (getD tracks t 0) (getD tracks t 0) u
         by true q e =
             let h : firstWhere fitting tracks < length tracks = ltb-true _ _ q in
-            let same : tabulate (suc w) (mended tracks) ≡ u = cc in (
+            let same : tabulate (suc w) (right tracks) ≡ u = cc in (
               firstWhere fitting tracks,
               h,
-              subst (Mends (found tracks) (found tracks)) same
-                  (tabulated (found tracks) (found tracks) (mended tracks)
-                  (mends-one w f (s .fits) v bounds (found tracks) (within (firstWhere fitting tracks) h)
+              subst (Corrects (found tracks) (found tracks)) same
+                  (tabulated (found tracks) (found tracks) (right tracks)
+                  (corrects-one w f (s .fits) v bounds (found tracks) (within (firstWhere fitting tracks) h)
                   (eqb-true _ _ (first-passes fitting tracks h)))
                   (λ k b ni nj. sym (untouched (v k) (found tracks) (paritySyndrome w v) k ni))),
             )
@@ -99,20 +99,20 @@ module _ (w f : ℕ) (v : ℕ → ℕ) where
         → AgreeBut (suc w) v g k k → (u : List ℕ) × (oneTrack w f v tracks ≡ corrected u)
     unfolding oneTrack
     one-found tracks g group t h k e within agree = (
-      tabulate (suc w) (mended tracks),
-      ap (λ (b : Bool). cond b (corrected (tabulate (suc w) (mended tracks))) noGroup)
+      tabulate (suc w) (right tracks),
+      ap (λ (b : Bool). cond b (corrected (tabulate (suc w) (right tracks))) noGroup)
           (lt-ltb _ _
           (first-found fitting tracks t h
           (ap fitting e ∙ eq-eqb _ _ (accounts w f (s .fits) v bounds g group k within agree)))),
     )
 
     two-sound : (n : ℕ) → Exponent w f n → n ≡ 2 * (n / 2) + 1 → w ≤ n → (i j : ℕ) → i < j → j ≤ w → (u : List ℕ)
-        → twoTracks w f n v i j ≡ corrected u → Mends i j u
+        → twoTracks w f n v i j ≡ corrected u → Corrects i j u
     unfolding twoTracks
     two-sound n x odd wide i j before within u e =
-        subst (Mends i j) same
+        subst (Corrects i j) same
         (tabulated i j _
-        (mends-two w f (s .fits) v bounds i j (s1 ⊕ second) second (omega arith) within (xor-lt w s1 second s1-lt small) small
+        (corrects-two w f (s .fits) v bounds i j (s1 ⊕ second) second (omega arith) within (xor-lt w s1 second s1-lt small) small
         (xor-assoc s1 second second ∙ ap (λ (y : ℕ). s1 ⊕ y) (xor-self second) ∙ xor-zero-r s1)
         (second-accounts w f n s x odd wide i j before within s1 s2 s1-lt s2-lt))
         (λ k b ni nj. sym (untouched _ j second k nj ∙ untouched (v k) i (s1 ⊕ second) k ni)))

@@ -7,7 +7,10 @@ pub mod Erasure
 pub mod Syndrome
 pub mod Pointed
 pub mod Correction
+pub mod Same
 pub mod Bytes
 pub mod Exchange
 pub mod Matrix
 pub mod Packed
+pub mod Corrected
+pub mod Judging

@@ -6,6 +6,7 @@ use mathlib.Core.Bool.{Bool, cond}
 use mathlib.Core.List.{List, [], _∷_, _++_}
 use Prim.Native.Nat.{ℕ, suc, _+_, _-_, _*_, _/_, _%_, _^_, _<_}
 use native.Mathlib.Nat.{div-one, zero-lt-suc, lt-trans, lt-of-lt-of-le, mul-lt-mul-of-pos-right, mul-le-mul-left, div-lt-iff-lt-mul}
+use native.Mathlib.Numerals.{add-one}
 use native.Mathlib.Omega.{arith}
 use borrow.Author.Tests.{eq-eqb, ne-eqb}
 use lib.Bits.{xor-comm, xor-shr, xor-mod}
@@ -25,6 +26,7 @@ use Rattle.register.proofs.Sum.{sum-ext, sum-lt, sum-one, sum-first, sum-last, 
 use Rattle.register.proofs.Xor.{xor-assoc, xor-left-comm}
 use Rattle.tables.specs.Rule.{spreadOf, reducedOf}
 use Rattle.rectangular.specs.Constants.{feedback}
+use Rattle.rectangular.specs.Correction.{paritySyndrome, checkSyndrome}
 use Rattle.rectangular.specs.Group.{information, check, character, column, track, group}
 use Rattle.rectangular.specs.Packed.{byteAt, valuesOf, sumOf, tracksTo, parityByte}
 use Rattle.rectangular.specs.declared.group.Group.{Group}
@@ -82,6 +84,10 @@ spread-fits = equal₂ 8 256 (λ i b. spreadOf b * 2 ^ i % 2 ^ 64) (λ i b. spre
 pub byte-fits : (i b : ℕ) → i < 8 → b < 256 → b * 2 ^ i % 65536 ≡ b * 2 ^ i
 byte-fits = equal₂ 8 256 (λ i b. b * 2 ^ i % 65536) (λ i b. b * 2 ^ i) tt
 
+-- one term more of a sum
+pub sum-more : (k : ℕ) (g : ℕ → ℕ) (sum x : ℕ) → sum ≡ xorSum k g → x ≡ g k → sum ⊕ x ≡ xorSum (k + 1) g
+sum-more k g sum x e t = ap₂ _⊕_ e t ∙ sym (sum-last k g) ∙ ap (λ (n : ℕ). xorSum n g) (sym (add-one k))
+
 -- ---- sums over B_1 to B_7, and then B_0
 
 next : (k : ℕ) → k < 7 → (k + 1) % 8 ≡ suc k
@@ -110,36 +116,44 @@ reduced-power : (h : ℕ) → h < 128 → reducedOf h ≡ shifts 8 feedback 8 h
 unfolding shift shifts
 reduced-power = equal 128 reducedOf (shifts 8 feedback 8) tt
 
-module _ (info : List ℕ) (below : Below 8 info) where
-  -- X^i B_i, and the part of it above its lowest eight bits
+-- a sum of products X^p v, reduced once, is the sum of T^p v
+module _ (n : ℕ) (p v : ℕ → ℕ) (powers : (i : ℕ) → i < n → p i < 8) (values : (i : ℕ) → i < n → v i < 256) where
+  -- X^p v, and the part of it above its lowest eight bits
   product : ℕ → ℕ
-  product i = information 8 info (suc i) * 2 ^ suc i
+  product i = v i * 2 ^ p i
 
   high : ℕ → ℕ
   high i = product i / 256
 
-  high-lt : (i : ℕ) → i < 7 → high i < 2 ^ 7
-  unfolding high product information
+  high-lt : (i : ℕ) → i < n → high i < 2 ^ 7
+  unfolding high product
   high-lt i h =
       div-lt-iff-lt-mul (zero-lt-suc 255) .1
-      (lt-of-lt-of-le (mul-lt-mul-of-pos-right (below (8 - 1 - suc i)) (pow-pos (suc i))) (mul-le-mul-left 256 (pow-mono {j = 7} (omega arith))))
+      (lt-of-lt-of-le (mul-lt-mul-of-pos-right (values i h) (pow-pos (p i))) (mul-le-mul-left 256 (pow-mono {j = 7} (omega (arith, powers i h)))))
 
-  sum-high : xorSum 7 (λ i. reducedOf (high i)) ≡ reducedOf (xorSum 7 product / 256)
+  sum-high : xorSum n (λ i. reducedOf (high i)) ≡ reducedOf (xorSum n product / 256)
   unfolding high
   sum-high =
-      sum-ext 7 _ _ (λ i h. reduced-power (high i) (high-lt i h))
-      ∙ sym (shifts-sum 8 feedback 8 7 high (omega arith) (λ i h. lt-trans (high-lt i h) (omega arith)))
-      ∙ sym (reduced-power (xorSum 7 high) (sum-lt 7 7 high high-lt))
-      ∙ ap reducedOf (sym (sum-shr 8 7 product))
+      sum-ext n _ _ (λ i h. reduced-power (high i) (high-lt i h))
+      ∙ sym (shifts-sum 8 feedback 8 n high (omega arith) (λ i h. lt-trans (high-lt i h) (omega arith)))
+      ∙ sym (reduced-power (xorSum n high) (sum-lt 7 n high high-lt))
+      ∙ ap reducedOf (sym (sum-shr 8 n product))
 
+  pub sum-reduced : (xorSum n (λ i. v i * 2 ^ p i) % 256) ⊕ reducedOf (xorSum n (λ i. v i * 2 ^ p i) / 256)
+      ≡ xorSum n (λ i. shifts 8 feedback (p i) (v i))
+  unfolding high product
+  sum-reduced =
+      ap₂ _⊕_ (sum-mod 8 n product) (sym sum-high)
+      ∙ sym (sum-xor n (λ i. product i % 256) (λ i. reducedOf (high i)))
+      ∙ sym (sum-ext n _ _ (λ i h. term (p i) (v i) (powers i h) (values i h)))
+
+module _ (info : List ℕ) (below : Below 8 info) where
   -- the sum of the first seven, reduced, is the check character
   pub check-reduced : (sumOf 7 info % 256) ⊕ reducedOf (sumOf 7 info / 256) ≡ character 8 feedback info 0
-  unfolding sumOf character check information high product
+  unfolding sumOf character check information
   check-reduced =
       ap (λ (u : ℕ). (u % 256) ⊕ reducedOf (u / 256)) (first-seven (λ i. character 8 feedback info i * 2 ^ i))
-      ∙ ap₂ _⊕_ (sum-mod 8 7 product) (sym sum-high)
-      ∙ sym (sum-xor 7 (λ i. product i % 256) (λ i. reducedOf (high i)))
-      ∙ sym (sum-ext 7 _ _ (λ i h. term (suc i) (information 8 info (suc i)) (omega arith) (below (8 - 1 - suc i))))
+      ∙ sum-reduced 7 suc (λ i. information 8 info (suc i)) (λ i h. omega arith) (λ i h. below (8 - 1 - suc i))
 
   -- bit r of track j is bit j of B_r
   tracks-character : (j r : ℕ) → j < 8 → r < 8 → bit (8 * j + r) (tracksTo 8 info) ≡ bit j (character 8 feedback info r)
@@ -185,3 +199,14 @@ module _ (g : Group) where
   pub value-parity : getD (valuesOf g) 8 0 ≡ g .parity
   unfolding valuesOf
   value-parity = getD-at (tabulate 8 (λ j. byteAt j (g .tracks))) (g .parity) [] 0 8 (length-tabulate 8 (λ j. byteAt j (g .tracks)))
+
+  -- its syndromes, from the packed tracks and the parity track
+  pub parity-syndrome : (p : ℕ) → p ≡ parityByte (g .tracks) → p ⊕ g .parity ≡ paritySyndrome 8 (λ k. getD (valuesOf g) k 0)
+  unfolding parityByte paritySyndrome
+  parity-syndrome p e =
+      ap (λ (x : ℕ). x ⊕ g .parity) e
+      ∙ sym (sum-last 8 (λ k. getD (valuesOf g) k 0) ∙ ap₂ _⊕_ (sum-ext 8 _ _ value-low) value-parity)
+
+  pub check-syndrome : (s : ℕ) → s ≡ checkSyndrome 8 feedback (λ j. byteAt j (g .tracks)) → s ≡ checkSyndrome 8 feedback (λ k. getD (valuesOf g) k 0)
+  unfolding checkSyndrome
+  check-syndrome s e = e ∙ sum-ext 8 _ _ (λ j h. ap (shifts 8 feedback j) (sym (value-low j h)))

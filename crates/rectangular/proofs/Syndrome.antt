@@ -101,10 +101,10 @@ module _ (w f : ℕ) (fits : f < 2 ^ w) (v : ℕ → ℕ) (bounds : (k : ℕ) �
   -- ---- an error put back
 
   -- in one track: S1 is the error, and it accounts for S2
-  pub mends-one : (k : ℕ) → k ≤ w → weighed w f k (paritySyndrome w v) ≡ checkSyndrome w f v
+  pub corrects-one : (k : ℕ) → k ≤ w → weighed w f k (paritySyndrome w v) ≡ checkSyndrome w f v
       → IsGroup w f (λ j. v j ⊕ errorAt k (paritySyndrome w v) j)
   unfolding paritySyndrome checkSyndrome
-  mends-one k h e = record {
+  corrects-one k h e = record {
     bounds = error-bounds k (paritySyndrome w v) h parity-lt;
     parity = parity-error k (paritySyndrome w v) h parity-lt ∙ xor-self (paritySyndrome w v);
     checked =
@@ -114,11 +114,11 @@ module _ (w f : ℕ) (fits : f < 2 ^ w) (v : ℕ → ℕ) (bounds : (k : ℕ) �
   }
 
 -- in two tracks: the errors sum to S1, and account for S2
-pub mends-two : (w f : ℕ) → f < 2 ^ w → (v : ℕ → ℕ) → ((k : ℕ) → k ≤ w → v k < 2 ^ w) → (i j a b : ℕ) → i ≤ w → j ≤ w → a < 2 ^ w → b < 2 ^ w
+pub corrects-two : (w f : ℕ) → f < 2 ^ w → (v : ℕ → ℕ) → ((k : ℕ) → k ≤ w → v k < 2 ^ w) → (i j a b : ℕ) → i ≤ w → j ≤ w → a < 2 ^ w → b < 2 ^ w
     → a ⊕ b ≡ paritySyndrome w v → weighed w f i a ⊕ weighed w f j b ≡ checkSyndrome w f v
     → IsGroup w f (λ k. v k ⊕ errorAt i a k ⊕ errorAt j b k)
 unfolding paritySyndrome checkSyndrome
-mends-two w f fits v bounds i j a b hi hj ha hb e q = record {
+corrects-two w f fits v bounds i j a b hi hj ha hb e q = record {
   bounds = error-bounds w f fits once once-lt j b hj hb;
   parity =
       parity-error w f fits once once-lt j b hj hb

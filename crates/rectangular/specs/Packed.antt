@@ -1,9 +1,11 @@
 -- The nine-track group as the code holds it: eight track bytes in one number of 64 bits, track j in bits 8j to 8j + 7, and
 -- the parity track beside it.
 -- Assumes nothing.
+use mathlib.Core.Bool.{cond}
 use mathlib.Core.List.{List, [], _∷_, _++_}
 use Prim.Native.Nat.{ℕ, _+_, _*_, _/_, _%_, _^_}
 use lib.Bits.{bitAnd}
+use lib.Dec.{ltb}
 use Rattle.indexed.specs.List.{tabulate}
 use Rattle.register.specs.Bit.{bit}
 use Rattle.register.specs.Sum.{xorSum}
@@ -20,6 +22,10 @@ byteAt j tracks = tracks / 2 ^ (8 * j) % 256
 -- the eight track bytes
 unfoldable pub bytesOf : ℕ → List ℕ
 bytesOf tracks = tabulate 8 (λ j. byteAt j tracks)
+
+-- a value where it stands among tracks 0 to 7
+unfoldable pub placedAt : ℕ → ℕ → ℕ
+placedAt track value = cond (ltb track 8) (value * 2 ^ (8 * track)) 0
 
 -- the nine track values
 unfoldable pub valuesOf : Group → List ℕ

@@ -6,7 +6,7 @@ ghost use Prim.Native.Nat.{_+_, _%_, _<_, _≤_};
 ghost use lib.ListN.{length, getD};
 ghost use Rattle.rectangular.specs.Constants.{feedback};
 ghost use Rattle.rectangular.specs.Group as code;
-ghost use Rattle.rectangular.specs.Packed.{valuesOf, sumOf, tracksTo, parityByte};
+ghost use Rattle.rectangular.specs.Packed.{valuesOf, sumOf, tracksTo, parityByte, placedAt};
 
 // The track values of a group: tracks 0 to 7, track j in bits 8j to 8j + 7, and the parity track.
 pub struct Group {
@@ -25,6 +25,18 @@ impl Group {
         } else {
             self.parity
         }
+    }
+}
+
+// A value where it stands among the tracks 0 to 7; that of the parity track stands elsewhere.
+pub fn placed(track: usize, value: u8) -> u64
+    requires { ⌜ track < 9 ⌝ }
+    ensures { λ r. ⌜ r ≡ placedAt track value ⌝ }
+{
+    if track < 8 {
+        (value as u64) << (8 * track)
+    } else {
+        0
     }
 }
 

@@ -1,5 +1,6 @@
 // The rectangular code of document 000: its constants, its register, its groups, and products with bytes.
 pub mod group;
+pub mod judge;
 pub mod product;
 pub mod transpose;
 
@@ -18,6 +19,8 @@ impl Code6250 {
     pub const EXPONENT: usize = 17;
     // A record's data are at most so many bytes.
     pub const MOST_DATA: usize = 4101;
+    // A record has at most so many groups.
+    pub const MOST_GROUPS: usize = 586;
 
     // The register before any byte: all zeros.
     pub fn fresh() -> Code6250

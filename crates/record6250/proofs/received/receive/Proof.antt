@@ -16,7 +16,7 @@ use lib.Pow.{pow-mono}
 use Rattle.indexed.specs.List.{tabulate, tabulateFrom}
 use Rattle.register.specs.Bit.{ofBits}
 use Rattle.group_code.specs.Word.{valueOf, forwardWord}
-use Rattle.record6250.specs.Received.{packed, placedAt}
+use Rattle.record6250.specs.Received.{packed}
 use Rattle.record6250.proofs.Packing.{bits-more}
 use Rattle.record6250.proofs.Receiving.{value-part, mark-part, low, mark, marks-lt, packed-fits, more-packed, more-marks, all-values, all-marks}
 use Rattle.record6250.proofs.received.receive.Statement.{statement}

@@ -1,26 +1,19 @@
 -- `rectangular::group::tracks` meets its contract. The loop's invariant: the first `k` terms of both sums are added.
 -- Assumes nothing.
-use mathlib.Core.Path.{_≡_, refl, sym, ap, ap₂, _∙_}
+use mathlib.Core.Path.{_≡_, refl, ap, _∙_}
 use Prim.Native.Nat.{ℕ, _+_, _-_, _*_, _%_, _^_, _≤_}
-use native.Mathlib.Numerals.{add-one}
 use native.Mathlib.Omega.{arith}
 use borrow.Author.Needs.{needs}
 use denote.Ref.{now}
 use Rattle.register.specs.Sum.{xorSum}
-use Rattle.register.specs.Xor.{_⊕_}
-use Rattle.register.proofs.Sum.{sum-last}
 use Rattle.tables.specs.Rule.{spreadOf}
 use Rattle.tables.proofs.Rule.{value-at}
 use Rattle.rectangular.specs.Constants.{feedback}
 use Rattle.rectangular.specs.Group.{character}
 use Rattle.rectangular.specs.Packed.{sumOf, tracksTo}
-use Rattle.rectangular.proofs.Packed.{spread-fits, byte-fits}
+use Rattle.rectangular.proofs.Packed.{spread-fits, byte-fits, sum-more}
 use Rattle.rectangular.proofs.group.tracks.Statement.{statement}
 use Rattle.rectangular.proofs.group.tracks.Tie as tie
-
--- one term more
-more : (k : ℕ) (g : ℕ → ℕ) (sum x : ℕ) → sum ≡ xorSum k g → x ≡ g k → sum ⊕ x ≡ xorSum (k + 1) g
-more k g sum x e t = ap₂ _⊕_ e t ∙ sym (sum-last k g) ∙ ap (λ (n : ℕ). xorSum n g) (sym (add-one k))
 
 abbrev Inv-loop : tie.InvT-loop
 Inv-loop info tracks₀ sum₀ k₀ tracks sum k = (k ≤ 8) × (tracks ≡ tracksTo k info) × (sum ≡ sumOf k info)
@@ -67,11 +60,11 @@ loop-again c =
     let byte = c .before .character in
     let power : ℕ = (at .k + 1) % 8 in (
       search needs,
-      more (at .k) (λ k. spreadOf (character 8 feedback info ((k + 1) % 8)) * 2 ^ ((k + 1) % 8)) _ _ (at .inv .1)
+      sum-more (at .k) (λ k. spreadOf (character 8 feedback info ((k + 1) % 8)) * 2 ^ ((k + 1) % 8)) _ _ (at .inv .1)
           (ap (λ (x : ℕ). x * 2 ^ power % 2 ^ 64) (c .spread-bits .ensures ∙ value-at spreadOf (byte .result))
           ∙ spread-fits power (byte .result) (omega arith) (search needs)
           ∙ ap (λ (b : ℕ). spreadOf b * 2 ^ power) (byte .ensures)),
-      more (at .k) (λ k. character 8 feedback info ((k + 1) % 8) * 2 ^ ((k + 1) % 8)) _ _ (at .inv .2)
+      sum-more (at .k) (λ k. character 8 feedback info ((k + 1) % 8) * 2 ^ ((k + 1) % 8)) _ _ (at .inv .2)
           (byte-fits power (byte .result) (omega arith) (search needs) ∙ ap (λ (b : ℕ). b * 2 ^ power) (byte .ensures)),
     )
 
