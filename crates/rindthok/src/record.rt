@@ -1,10 +1,14 @@
 // Records for C.
 use crate::refused_status;
+use record6250::Read;
 use record6250::Written;
+ghost use mathlib.Core.Bool.{true, false};
 ghost use mathlib.Core.Path.{_≡_};
 ghost use lib.ListN.{length};
 ghost use Rattle.answer.specs.Answer.{outputAfter};
+ghost use Rattle.record6250.specs.Read.{readAnswer, readData};
 ghost use Rattle.record6250.specs.Record.{writtenRecord};
+ghost use Rattle.record6250.specs.Told.{toldRead};
 ghost use Rattle.record6250.specs.Written.{toldWritten, writeAnswer};
 ghost use Rattle.rindthok.specs.Status.{status, placeTold, valueAfter};
 
@@ -22,6 +26,72 @@ pub extern "C" fn rindthok_write6250(
     ensures output { λ _. ⌜ now (words .exit) ≡ outputAfter (writeAnswer (length (now (bytes .entry))) (length (now (words .entry)))) (writtenRecord (now (bytes .entry))) (now (words .entry)) ⌝ }
 {
     written_status(record6250::write(bytes, words), groups, place)
+}
+
+// Reads a 6250 record forward, and stores the data's length and the number of changed words.
+#[no_mangle]
+pub extern "C" fn rindthok_read6250_forward(
+    words: &[u16],
+    maps: &[u16],
+    output: &mut [u8],
+    size: &mut usize,
+    changes: &mut usize,
+    place: &mut usize,
+) -> u16
+    ensures returned { λ r. ⌜ r ≡ status (readAnswer false (now (words .entry)) (now (maps .entry)) (length (now (output .entry)))) ⌝ }
+    ensures told { λ _. ⌜ now (place .exit) ≡ placeTold (readAnswer false (now (words .entry)) (now (maps .entry)) (length (now (output .entry)))) ⌝ }
+    ensures counted { λ _. ⌜ now (size .exit) ≡ valueAfter (readAnswer false (now (words .entry)) (now (maps .entry)) (length (now (output .entry)))) 0 (now (size .entry)) ⌝ }
+    ensures changed { λ _. ⌜ now (changes .exit) ≡ valueAfter (readAnswer false (now (words .entry)) (now (maps .entry)) (length (now (output .entry)))) 1 (now (changes .entry)) ⌝ }
+    ensures output { λ _. ⌜ now (output .exit) ≡ outputAfter (readAnswer false (now (words .entry)) (now (maps .entry)) (length (now (output .entry)))) (readData false (now (words .entry)) (now (maps .entry))) (now (output .entry)) ⌝ }
+{
+    read_status(
+        record6250::read_forward(words, maps, output),
+        size,
+        changes,
+        place,
+    )
+}
+
+// Reads a 6250 record backward, and stores the same.
+#[no_mangle]
+pub extern "C" fn rindthok_read6250_backward(
+    words: &[u16],
+    maps: &[u16],
+    output: &mut [u8],
+    size: &mut usize,
+    changes: &mut usize,
+    place: &mut usize,
+) -> u16
+    ensures returned { λ r. ⌜ r ≡ status (readAnswer true (now (words .entry)) (now (maps .entry)) (length (now (output .entry)))) ⌝ }
+    ensures told { λ _. ⌜ now (place .exit) ≡ placeTold (readAnswer true (now (words .entry)) (now (maps .entry)) (length (now (output .entry)))) ⌝ }
+    ensures counted { λ _. ⌜ now (size .exit) ≡ valueAfter (readAnswer true (now (words .entry)) (now (maps .entry)) (length (now (output .entry)))) 0 (now (size .entry)) ⌝ }
+    ensures changed { λ _. ⌜ now (changes .exit) ≡ valueAfter (readAnswer true (now (words .entry)) (now (maps .entry)) (length (now (output .entry)))) 1 (now (changes .entry)) ⌝ }
+    ensures output { λ _. ⌜ now (output .exit) ≡ outputAfter (readAnswer true (now (words .entry)) (now (maps .entry)) (length (now (output .entry)))) (readData true (now (words .entry)) (now (maps .entry))) (now (output .entry)) ⌝ }
+{
+    read_status(
+        record6250::read_backward(words, maps, output),
+        size,
+        changes,
+        place,
+    )
+}
+
+// The answer for a reading as numbers.
+fn read_status(answer: Read, size: &mut usize, changes: &mut usize, place: &mut usize) -> u16
+    ensures returned { λ r. ⌜ r ≡ status (toldRead answer) ⌝ }
+    ensures told { λ _. ⌜ now (place .exit) ≡ placeTold (toldRead answer) ⌝ }
+    ensures counted { λ _. ⌜ now (size .exit) ≡ valueAfter (toldRead answer) 0 (now (size .entry)) ⌝ }
+    ensures changed { λ _. ⌜ now (changes .exit) ≡ valueAfter (toldRead answer) 1 (now (changes .entry)) ⌝ }
+{
+    match answer {
+        Read::Delivered(figures) => {
+            *size = figures.length;
+            *changes = figures.changes;
+            *place = 0;
+            0
+        }
+        Read::Refused(refusal) => refused_status(refusal, place),
+    }
 }
 
 // The answer for a written record as numbers.
