@@ -2,16 +2,26 @@
 -- Assumes nothing.
 use mathlib.Core.Path.{_≡_, refl}
 use mathlib.Core.List.{map}
-use Rattle.indexed.specs.List.{tabulate, tabulateFrom, blocks}
+use lib.Count.{ones, onesIn}
+use Rattle.indexed.specs.List.{tabulate, tabulateFrom, blocks, firstWhere, below, firstBelow, keep, turnedPlace, total}
 use Rattle.register.specs.Bit.{bit, ofBits}
 use Rattle.register.specs.Shift.{shift, shifts}
 use Rattle.register.specs.Sum.{xorSum}
-use Rattle.rectangular.specs.Group.{information, check, character, column, track, group}
+use Rattle.answer.specs.Answer.{outputAfter}
+use Rattle.group_code.specs.Code.{decoded, legal}
+use Rattle.group_code.specs.Word.{legalWord, valueOf, illegality, mirrored, reversedWord, forwardWord}
+use Rattle.rectangular.specs.Correction.{pointedTracks, paritySyndrome, checkSyndrome, weighed, erasure, secondError, errorAt, oneTrack, twoTracks, judged}
+use Rattle.rectangular.specs.Group.{information, check, character, column, track, group, informationOf}
+use Rattle.rectangular.specs.Judged.{changedMap}
+use Rattle.record6250.specs.Group.{stray, illegalMap, pointed, judgedGroup, isCorrected, rightValues, reasonOf, rightBytes, rightWords}
+use Rattle.record6250.specs.Picture.{groupRead, mapRead}
+use Rattle.record6250.specs.Read.{lengthsSuit, lastByte, paddingSuits, unpadded, readGroup, readMap, judgement, changedTracks, firstStray, firstUnfit, readBody, readData, changes, judgedAnswer, readAnswer}
 use Rattle.record6250.specs.Record.{padding, body, groupsFor, groupBytes, groupWords, firstGroups, writtenRecord}
 use Rattle.record6250.specs.Written.{writeAnswer}
-use Rattle.terms.specs.Starred.{answered, result, Reading, starred}
+use Rattle.terms.specs.Starred.{answered, result, BenchReading, starred}
+use Rattle.terms.specs.Terms as Terms
 
-pub starred-hold : (map (λ (r : Reading). answered (r .call)) starred ≡ map (λ (r : Reading). r .answer) starred)
-    × (map (λ (r : Reading). result (r .call)) starred ≡ map (λ (r : Reading). r .stored) starred)
-unfolding starred answered result writeAnswer writtenRecord firstGroups groupWords groupBytes groupsFor body padding group track column character check information xorSum shift shifts bit ofBits tabulate tabulateFrom blocks
+pub starred-hold : (map (λ (r : BenchReading). answered (r .call)) starred ≡ map (λ (r : BenchReading). r .answer) starred)
+    × (map (λ (r : BenchReading). result (r .call)) starred ≡ map (λ (r : BenchReading). r .stored) starred)
+unfolding starred answered result Terms.answer Terms.result outputAfter writeAnswer writtenRecord firstGroups groupWords groupBytes groupsFor body padding readAnswer judgedAnswer changes readData readBody firstUnfit firstStray changedTracks judgement readMap readGroup unpadded paddingSuits lastByte lengthsSuit mapRead groupRead rightWords rightBytes reasonOf rightValues isCorrected judgedGroup pointed illegalMap stray changedMap judged twoTracks oneTrack errorAt secondError erasure weighed checkSyndrome paritySyndrome pointedTracks group track column character check information informationOf forwardWord reversedWord mirrored illegality valueOf legalWord legal decoded xorSum shift shifts bit ofBits tabulate tabulateFrom blocks firstWhere below firstBelow keep turnedPlace total ones onesIn
 starred-hold = (refl, refl)

@@ -1,0 +1,34 @@
+-- The notice's third term holds, for every reading that passes the first three rows.
+-- Assumes nothing.
+use mathlib.Core.Path.{_≡_, sym, _∙_}
+use mathlib.Core.Bool.{Bool}
+use mathlib.Core.List.{List}
+use Prim.Native.Nat.{ℕ, _-_, _*_, _≤_}
+use native.Mathlib.Nat.{le-of-eq}
+use lib.ListN.{length}
+use Rattle.record6250.specs.Fits as six
+use Rattle.record6250.specs.Read.{readAnswer, readData, judgedAnswer}
+use Rattle.record6250.proofs.Delivery.{all-passed}
+use Rattle.record6250.proofs.Fitting.{fits-delivered, delivered-fits, only-one}
+use Rattle.terms.specs.Terms.{Reading, at6250, Passes, Fits, told, answer, result, OneFits, ThirdTerm}
+
+module _ (backward : Bool) (words maps : List ℕ) (space : ℕ) (passes : six.Passes backward words maps) (enough : 7 * length maps - 1 ≤ space) where
+  judged : readAnswer backward words maps space ≡ judgedAnswer backward words maps
+  judged = all-passed backward words maps space (passes .lengths) enough (le-of-eq (sym (passes .no-stray)))
+
+  third-6250 : ThirdTerm (at6250 backward words maps) space
+  unfolding Fits told answer result
+  third-6250 = record {
+    delivered-if-one = λ bytes one.
+        let d = fits-delivered backward words maps passes bytes (one .fits) in (judged ∙ d .0, d .1);
+    one-if-delivered = λ values e.
+        let f = delivered-fits backward words maps passes values (sym judged ∙ e) in (
+          readData backward words maps,
+          record { fits = f; only = λ others g. only-one backward words maps passes others (readData backward words maps) g f },
+        );
+  }
+
+-- the third term
+pub third-term : (r : Reading) (space : ℕ) → Passes r space → ThirdTerm r space
+unfolding Passes
+third-term (at6250 backward words maps) space p = third-6250 backward words maps space (p .0) (p .1)

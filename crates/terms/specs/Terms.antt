@@ -1,0 +1,45 @@
+-- The notice's second and third terms, in terms of readings, written records and fits only: nothing here speaks of a decoder.
+-- Assumes nothing.
+use mathlib.Core.Bool.{Bool}
+use mathlib.Core.List.{List, [], _∷_}
+use mathlib.Core.Path.{_≡_}
+use Prim.Native.Nat.{ℕ, _-_, _*_, _≤_}
+use lib.ListN.{length}
+use Rattle.answer.specs.Answer.{Answer, delivered}
+use Rattle.record6250.specs.Fits as six
+use Rattle.record6250.specs.Read.{readAnswer, readData}
+
+-- A reading: at 6250, whether it is backward, its words, and a pointer map for each group.
+pub data Reading : Type 0 where
+  at6250 : Bool → List ℕ → List ℕ → Reading
+
+-- lengths, space and stray bits have passed: the first three rows of document 01's table
+unfoldable pub Passes : Reading → ℕ → Type 0
+Passes (at6250 backward words maps) space = six.Passes backward words maps × (7 * length maps - 1 ≤ space)
+
+-- the written record of these data fits the reading
+unfoldable pub Fits : Reading → List ℕ → Type 0
+Fits (at6250 backward words maps) bytes = six.Fits backward words maps bytes
+
+-- what a delivery of these data tells: their length, and the reading's differences from their record
+unfoldable pub told : Reading → List ℕ → List ℕ
+told (at6250 backward words maps) bytes = length bytes ∷ six.wordsChanged backward words maps bytes ∷ []
+
+-- what the reader answers with so much space, and the data that it delivers
+unfoldable pub answer : Reading → ℕ → Answer
+answer (at6250 backward words maps) space = readAnswer backward words maps space
+
+unfoldable pub result : Reading → List ℕ
+result (at6250 backward words maps) = readData backward words maps
+
+-- exactly one written record fits, that of these data
+pub record OneFits (r : Reading) (bytes : List ℕ) : Type 0 where
+  pub fits : Fits r bytes
+  pub only : (others : List ℕ) → Fits r others → others ≡ bytes
+
+-- "A reading is delivered exactly when exactly one written record fits it, and refused if none or several do. Nobody can get
+-- another record delivered than that one: its data are given, with their length, and the changes told are the reading's
+-- differences from it."
+pub record ThirdTerm (r : Reading) (space : ℕ) : Type 0 where
+  pub delivered-if-one : (bytes : List ℕ) → OneFits r bytes → (answer r space ≡ delivered (told r bytes)) × (result r ≡ bytes)
+  pub one-if-delivered : (values : List ℕ) → answer r space ≡ delivered values → (bytes : List ℕ) × OneFits r bytes
