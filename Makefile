@@ -5,14 +5,14 @@
 ARCHIVE := target/staticlib/librindthok.a
 SOURCES := $(shell find crates -name '*.rt' -o -name '*.antt') crates.txt
 
-run: target/bin/listing target/write_and_move
+run: target/bin/listing target/write_and_read
 	printf '\001' | ./target/bin/listing
-	./target/write_and_move
+	./target/write_and_read
 
 test:
 	bash .ci/run
 
-target/write_and_move: examples/write_and_move.c include/rindthok.h $(ARCHIVE)
+target/write_and_read: examples/write_and_read.c include/rindthok.h $(ARCHIVE)
 	$(CC) -O2 -Wall -Wextra -Werror -Iinclude -o $@ $< $(ARCHIVE)
 
 # rt proves the crate and what it stands on, and builds only if every function is proved.

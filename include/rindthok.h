@@ -34,6 +34,17 @@ enum rindthok_refusal {
  * there are more than 4101 bytes, 2 if the space is under nine words a group; `groups` is then as it was. */
 uint16_t rindthok_write6250(const uint8_t *bytes, size_t byte_count, uint16_t *words, size_t word_space, size_t *groups, size_t *place);
 
+/* Reads a 6250 record: nine words a group, tracks 0 to 8, and a pointer map a group, bit i for track i. The
+ * one written record that fits is delivered: its data at the front of `output`, their length in `size`, and in
+ * `changes` how many words of the reading differ from it. Backward, groups and maps come last first and each
+ * word's ten bits are reversed; the answer is that of the forward reading, places too.
+ * Refusals, from top to bottom: 1 if there are not nine words and one map for each of 1 to 586 groups; 2 if the
+ * output has under 7 bytes a group, less 1; 3 if a word is above 1023 or a map above 511; 4 if a group has
+ * three or more tracks pointed, 5 if no group of the code fits it, with the first such group as place; 6 if
+ * the padding is not as a writer leaves it. `size`, `changes` and `output` are then as they were. */
+uint16_t rindthok_read6250_forward(const uint16_t *words, size_t word_count, const uint16_t *maps, size_t map_count, uint8_t *output, size_t output_space, size_t *size, size_t *changes, size_t *place);
+uint16_t rindthok_read6250_backward(const uint16_t *words, size_t word_count, const uint16_t *maps, size_t map_count, uint8_t *output, size_t output_space, size_t *size, size_t *changes, size_t *place);
+
 /* Nine words of ten bits from code order (algebraic track a at index a) to head order (physical track
  * p, 1 to 9, at index p - 1), by the order of document 000, note 11; and back. The target has space
  * for nine or more. Refusals: 1 if there are not nine words, 2 if the space is short, 3 if a word is

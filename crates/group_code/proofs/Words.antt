@@ -1,21 +1,21 @@
 -- Words as they are read: each byte is read back from its word, each legal word is the word of its value, and a word turned
 -- twice is as it was. All are computed tests.
 -- Assumes nothing.
-use mathlib.Core.Path.{_≡_, refl, sym, ap, ap₂, _∙_}
-use mathlib.Core.Bool.{Bool, true, false, cond, not, _&&_}
-use Prim.Native.Nat.{ℕ, _+_, _*_, _/_, _%_, _<_, _≤_}
+use mathlib.Core.Path.{_≡_, sym, ap, ap₂, _∙_}
+use mathlib.Core.Bool.{Bool, cond, _&&_}
+use Prim.Native.Nat.{ℕ, _+_, _*_, _/_, _%_, _<_}
 use native.Mathlib.Nat.{mod-lt, zero-lt-suc}
 use native.Mathlib.Decide.{decLt}
 use native.Mathlib.Omega.{arith}
-use borrow.Author.Tests.{eqb-true, lt-ltb, le-ltb}
+use borrow.Author.Tests.{lt-ltb}
 use lib.Bits.{bitOr}
-use lib.Dec.{T, eqb, ltb, ltb→lt, eqb→eq}
+use lib.Dec.{eqb, ltb, ltb→lt}
 use lib.ListN.{getD}
 use Rattle.indexed.specs.List.{tabulate, tabulateFrom, firstWhere}
 use Rattle.indexed.proofs.Test.{tested, equal, equal₂}
 use Rattle.register.specs.Bit.{bit, ofBits}
-use Rattle.group_code.specs.Code.{codeOf, decoded, legal, wordOf}
-use Rattle.group_code.specs.Word.{legalWord, valueOf, illegality, mirrored, reversedWord, forwardWord, numbers, mirroredNumbers}
+use Rattle.group_code.specs.Code.{decoded, legal, wordOf}
+use Rattle.group_code.specs.Word.{legalWord, valueOf, illegality, mirrored, reversedWord, numbers, mirroredNumbers}
 
 -- ---- the tables
 

@@ -4,7 +4,6 @@ use Prim.Native.Nat.{ℕ, _+_, _-_, _*_, _/_, _%_}
 use mathlib.Core.Bool.{Bool, cond, _&&_}
 use mathlib.Core.List.{List, [], _∷_}
 use lib.Dec.{ltb}
-use lib.ListN.{getD}
 use Rattle.indexed.specs.List.{tabulate}
 use Rattle.register.specs.Bit.{bit, ofBits}
 use Rattle.group_code.specs.Code.{decoded, legal}

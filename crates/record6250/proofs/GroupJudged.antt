@@ -3,24 +3,23 @@
 use mathlib.Core.Path.{_≡_, refl, sym, ap, ap₂, subst, _∙_}
 use mathlib.Core.Bool.{Bool, true, false, cond}
 use mathlib.Core.List.{List, map}
-use mathlib.Core.Logic.{_⊎_, inl, inr}
-use Prim.Native.Nat.{ℕ, zero, suc, _+_, _*_, _/_, _%_, _^_, _<_, _≤_}
+use Prim.Native.Nat.{ℕ, _+_, _*_, _/_, _%_, _<_}
 use native.Mathlib.Decide.{decLt, ℕ-discrete}
 use native.Mathlib.Nat.{mul-comm}
 use native.Mathlib.Omega.{arith}
 use borrow.Author.Tests.{ltb-false, le-ltb, ne-eqb}
 use lib.Bits.{bitOr, or-lt, or-zero-r}
-use lib.Dec.{eqb, ltb}
+use lib.Dec.{eqb}
 use lib.ListN.{length, getD, List·getD-eq-default}
 use Rattle.indexed.specs.List.{tabulate, turnedPlace}
 use Rattle.indexed.proofs.Map.{getD-map}
 use Rattle.indexed.proofs.Tabulate.{getD-tabulate, tabulate-same}
-use Rattle.register.specs.Bit.{bit, ofBits}
+use Rattle.register.specs.Bit.{ofBits}
 use Rattle.register.proofs.Expand.{bits-ext}
 use Rattle.register.proofs.Ones.{bit-or, bit-of-tabulate, tabulated-lt}
 use Rattle.group_code.specs.Code.{wordOf}
 use Rattle.group_code.specs.Word.{valueOf, illegality, forwardWord}
-use Rattle.group_code.proofs.Words.{value-lt, value-of-word, word-legal, word-of-value}
+use Rattle.group_code.proofs.Words.{value-of-word, word-legal, word-of-value}
 use Rattle.rectangular.specs.Constants.{feedback, exponent}
 use Rattle.rectangular.specs.Correction.{pointedTracks, corrected, judged}
 use Rattle.rectangular.specs.Judged.{changedMap}

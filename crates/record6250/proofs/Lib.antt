@@ -17,3 +17,4 @@ pub mod Delivery
 pub mod Fitting
 pub mod Refused
 pub mod Undamaged
+pub mod Backward

@@ -1,8 +1,8 @@
 -- Bytes packed in one number, and bits gathered in one, as a loop adds them up.
 -- Assumes nothing.
-use mathlib.Core.Path.{_≡_, refl, sym, ap, ap₂, _∙_}
+use mathlib.Core.Path.{_≡_, sym, ap, _∙_}
 use mathlib.Core.List.{List, [], _∷_, _++_}
-use Prim.Native.Nat.{ℕ, zero, suc, _+_, _-_, _*_, _/_, _%_, _^_, _<_, _≤_}
+use Prim.Native.Nat.{ℕ, zero, suc, _+_, _-_, _*_, _/_, _%_, _^_, _<_}
 use native.Mathlib.Decide.{decLt}
 use native.Mathlib.Nat.{add-comm, mul-assoc, not-suc-le-zero, le-refl, add-mul-div-right, add-mul-mod-self-right, mod-eq-of-lt, pow-suc}
 use native.Mathlib.Omega.{arith}

@@ -3,19 +3,19 @@
 use mathlib.Core.Path.{_≡_, refl, sym, ap, ap₂, _∙_}
 use mathlib.Core.Bool.{Bool, true, false, cond}
 use mathlib.Core.List.{List, [], _∷_, _++_}
-use Prim.Native.Nat.{ℕ, zero, suc, _+_, _*_, _/_, _%_, _^_, _<_, _≤_}
+use Prim.Native.Nat.{ℕ, suc, _+_, _*_, _/_, _%_, _^_, _<_, _≤_}
 use native.Mathlib.Decide.{decLt}
 use native.Mathlib.Nat.{add-zero, zero-mul, zero-lt-suc, lt-of-lt-of-le}
 use native.Mathlib.Numerals.{add-one}
 use native.Mathlib.Omega.{arith}
-use borrow.Author.Tests.{lt-ltb, le-ltb}
+use borrow.Author.Tests.{lt-ltb}
 use lib.Dec.{ltb}
 use lib.Pow.{pow-mono, shl-exact}
 use Rattle.indexed.specs.List.{tabulate}
 use Rattle.indexed.proofs.Tabulate.{getD-tabulate, tabulate-same, tabulate-last}
 use Rattle.register.specs.Bit.{ofBits}
 use Rattle.register.proofs.Ones.{tabulated-lt}
-use Rattle.group_code.specs.Word.{valueOf, illegality, legalWord, forwardWord}
+use Rattle.group_code.specs.Word.{valueOf, illegality}
 use Rattle.group_code.proofs.Words.{value-lt}
 use Rattle.rectangular.specs.Packed.{byteAt, valuesOf, placedAt}
 use Rattle.record6250.specs.Group.{illegalMap}

@@ -1,22 +1,21 @@
 -- A walk over the groups of a reading: what is known where it stops, and what it has gathered.
 -- Assumes nothing.
-use mathlib.Core.Path.{_≡_, refl, sym, ap, ap₂, _∙_}
+use mathlib.Core.Path.{_≡_, sym, ap, _∙_}
 use mathlib.Core.Bool.{Bool, true, false, cond, not}
 use mathlib.Core.List.{List, [], _∷_}
 use Prim.Native.Nat.{ℕ, zero, suc, _+_, _-_, _*_, _<_, _≤_}
-use native.Mathlib.Nat.{le-trans}
 use native.Mathlib.Numerals.{add-one}
 use native.Mathlib.Omega.{arith}
 use borrow.Author.Tests.{lt-ltb, le-ltb}
 use native.Mathlib.Nat.{le-refl}
 use lib.Count.{ones, ones-le}
 use lib.Dec.{ltb}
-use lib.ListN.{length, getD}
+use lib.ListN.{length}
 use Rattle.indexed.specs.List.{total}
 use Rattle.indexed.proofs.Below.{first-below-at, first-below-none}
 use Rattle.indexed.proofs.Tabulate.{tabulate-same}
-use Rattle.answer.specs.Answer.{delivered, refused, refusedFor}
-use Rattle.rectangular.specs.Correction.{Judgement, corrected, manyPointed, noGroup}
+use Rattle.answer.specs.Answer.{delivered, refusedFor}
+use Rattle.rectangular.specs.Correction.{Judgement, corrected}
 use Rattle.rectangular.specs.Group.{informationOf}
 use Rattle.rectangular.specs.Judged.{correctedValues, toldJudged, toldChanged}
 use Rattle.rectangular.specs.Packed.{byteAt}

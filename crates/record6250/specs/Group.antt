@@ -1,6 +1,6 @@
 -- How a group of nine words is judged, with the drive's pointer map (document 01, "The 6250 group"; the notice, third term).
 -- Assumes nothing.
-use Prim.Native.Nat.{ℕ, zero, suc}
+use Prim.Native.Nat.{ℕ}
 use mathlib.Core.Bool.{Bool, true, false, _||_}
 use mathlib.Core.List.{List, [], map}
 use lib.Bits.{bitOr}

@@ -8,7 +8,7 @@ use lib.Dec.{eqb, leb, ltb}
 use lib.ListN.{length, getD, take}
 use Rattle.indexed.specs.List.{blocks, firstBelow, total}
 use Rattle.indexed.specs.Test.{allBelow}
-use Rattle.answer.specs.Answer.{Answer, delivered, refusedFor, toldRefusal}
+use Rattle.answer.specs.Answer.{Answer, delivered, refusedFor}
 use Rattle.answer.specs.declared.Reason.the-variants.{Length, Space, StrayBits, Padding}
 use Rattle.rectangular.specs.Correction.{Judgement}
 use Rattle.rectangular.specs.Judged.{changedMap}

@@ -3,7 +3,7 @@
 use mathlib.Core.Path.{_≡_, refl, ap, ap₂, _∙_}
 use mathlib.Core.Bool.{cond}
 use mathlib.Core.List.{List, [], _∷_}
-use Prim.Native.Nat.{ℕ, suc, _+_, _<_}
+use Prim.Native.Nat.{ℕ, suc, _<_}
 use native.Mathlib.Omega.{arith}
 use lib.Dec.{ltb, eqb}
 use lib.ListN.{length, getD}
@@ -12,7 +12,7 @@ use Rattle.indexed.proofs.Tabulate.{tabulate-same}
 use Rattle.register.specs.Shift.{shifts}
 use Rattle.register.specs.Xor.{_⊕_}
 use Rattle.register.proofs.Sum.{sum-ext}
-use Rattle.rectangular.specs.Correction.{paritySyndrome, checkSyndrome, weighed, secondError, errorAt, Judgement, corrected, manyPointed, noGroup, oneTrack, twoTracks, judged}
+use Rattle.rectangular.specs.Correction.{paritySyndrome, checkSyndrome, weighed, secondError, errorAt, Judgement, corrected, noGroup, oneTrack, twoTracks, judged}
 
 module _ (w f n : ℕ) (u v : ℕ → ℕ) (same : (k : ℕ) → k < suc w → u k ≡ v k) where
   same-parity : paritySyndrome w u ≡ paritySyndrome w v

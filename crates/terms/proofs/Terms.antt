@@ -10,7 +10,7 @@ use Rattle.record6250.specs.Fits as six
 use Rattle.record6250.specs.Read.{readAnswer, readData, judgedAnswer}
 use Rattle.record6250.proofs.Delivery.{all-passed}
 use Rattle.record6250.proofs.Fitting.{fits-delivered, delivered-fits, only-one}
-use Rattle.terms.specs.Terms.{Reading, at6250, Passes, Fits, told, answer, result, OneFits, ThirdTerm}
+use Rattle.terms.specs.Terms.{Reading, at6250, Passes, Fits, told, answer, result, ThirdTerm}
 
 module _ (backward : Bool) (words maps : List ℕ) (space : ℕ) (passes : six.Passes backward words maps) (enough : 7 * length maps - 1 ≤ space) where
   judged : readAnswer backward words maps space ≡ judgedAnswer backward words maps

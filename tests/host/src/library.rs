@@ -4,6 +4,28 @@ extern "C" {
     fn rindthok_words_to_physical(source: *const u16, sources: usize, target: *mut u16, targets: usize, place: *mut usize) -> u16;
     fn rindthok_words_to_algebraic(source: *const u16, sources: usize, target: *mut u16, targets: usize, place: *mut usize) -> u16;
     fn rindthok_write6250(bytes: *const u8, count: usize, words: *mut u16, space: usize, groups: *mut usize, place: *mut usize) -> u16;
+    fn rindthok_read6250_forward(
+        words: *const u16,
+        word_count: usize,
+        maps: *const u16,
+        map_count: usize,
+        output: *mut u8,
+        output_space: usize,
+        size: *mut usize,
+        changes: *mut usize,
+        place: *mut usize,
+    ) -> u16;
+    fn rindthok_read6250_backward(
+        words: *const u16,
+        word_count: usize,
+        maps: *const u16,
+        map_count: usize,
+        output: *mut u8,
+        output_space: usize,
+        size: *mut usize,
+        changes: *mut usize,
+        place: *mut usize,
+    ) -> u16;
     fn rindthok_map_to_physical(map: u16, moved: *mut u16, place: *mut usize) -> u16;
     fn rindthok_map_to_algebraic(map: u16, moved: *mut u16, place: *mut usize) -> u16;
 }
@@ -19,6 +41,12 @@ pub enum Answer {
 pub enum Toward {
     Physical,
     Algebraic,
+}
+
+#[derive(Clone, Copy, Debug)]
+pub enum Direction {
+    Forward,
+    Backward,
 }
 
 pub fn words(toward: Toward, source: &[u16], target: &mut [u16]) -> Answer {
@@ -46,6 +74,19 @@ pub fn write6250(bytes: &[u8], words: &mut [u16]) -> Answer {
     let status = unsafe { rindthok_write6250(bytes.as_ptr(), bytes.len(), words.as_mut_ptr(), words.len(), &mut groups, &mut place) };
     assert!(status == 0 || groups == KEPT, "a refusal stores no value");
     answer(status, place, || vec![groups as u64])
+}
+
+/// A delivery tells the data's length and the number of changed words.
+pub fn read6250(direction: Direction, words: &[u16], maps: &[u16], output: &mut [u8]) -> Answer {
+    let (mut size, mut changes, mut place) = (KEPT, KEPT, usize::MAX);
+    let call = match direction {
+        Direction::Forward => rindthok_read6250_forward,
+        Direction::Backward => rindthok_read6250_backward,
+    };
+    let (from, pointers, to) = (words.as_ptr(), maps.as_ptr(), output.as_mut_ptr());
+    let status = unsafe { call(from, words.len(), pointers, maps.len(), to, output.len(), &mut size, &mut changes, &mut place) };
+    assert!(status == 0 || (size, changes) == (KEPT, KEPT), "a refusal stores no value");
+    answer(status, place, || vec![size as u64, changes as u64])
 }
 
 /// What lies in a number before a call that may store a value there.

@@ -1,12 +1,15 @@
 //! Tests of the proved archive from outside: the outside cases of tests/vectors, and comparisons
 //! with implementations that share nothing with the library. The last line is `N passed, M failed`.
 
+mod bench;
+mod damage6250;
 mod head_order;
 mod library;
+mod reading6250;
 mod record6250;
 mod vectors;
 
-use library::Toward;
+use library::{Direction, Toward};
 use vectors::LENT;
 
 /// A seeded generator (splitmix64), so that every run tries the same cases.
@@ -26,19 +29,21 @@ impl Seeded {
     }
 }
 
-/// The cases tried, and what went wrong in those that differ.
+/// The cases tried, what went wrong in those that differ, and what else the suite tells of them.
+#[derive(Default)]
 struct Tried {
     cases: usize,
     wrong: Vec<String>,
+    remarks: Vec<String>,
 }
 
-fn vector_file(name: &str) -> Tried {
+fn vector_file(name: &str, run: impl Fn(&str) -> Result<(), String>) -> Tried {
     let path = format!("{}/../vectors/{name}", env!("CARGO_MANIFEST_DIR"));
     let text = std::fs::read_to_string(&path).expect("the vectors are in the repository");
-    let mut tried = Tried { cases: 0, wrong: vec![] };
+    let mut tried = Tried::default();
     for line in text.lines() {
         tried.cases += 1;
-        if let Err(what) = vectors::run(line) {
+        if let Err(what) = run(line) {
             tried.wrong.push(format!("{line}: {what}"));
         }
     }
@@ -46,7 +51,7 @@ fn vector_file(name: &str) -> Tried {
 }
 
 fn every_map(toward: Toward) -> Tried {
-    let mut tried = Tried { cases: 0, wrong: vec![] };
+    let mut tried = Tried::default();
     for map in 0..=u16::MAX {
         tried.cases += 1;
         let mut moved = LENT;
@@ -62,7 +67,7 @@ fn every_map(toward: Toward) -> Tried {
 
 fn random_words(toward: Toward) -> Tried {
     let mut seeded = Seeded(212);
-    let mut tried = Tried { cases: 0, wrong: vec![] };
+    let mut tried = Tried::default();
     for case in 0..200_000 {
         tried.cases += 1;
         let count = if case % 8 == 0 { seeded.below(20) } else { 9 };
@@ -91,7 +96,7 @@ fn random_length(seeded: &mut Seeded, case: usize) -> usize {
 
 fn random_writes() -> Tried {
     let mut seeded = Seeded(6250);
-    let mut tried = Tried { cases: 0, wrong: vec![] };
+    let mut tried = Tried::default();
     for case in 0..200_000 {
         tried.cases += 1;
         let count = random_length(&mut seeded, case);
@@ -115,7 +120,7 @@ fn listing() -> Tried {
     use std::process::{Command, Stdio};
     let program = concat!(env!("CARGO_MANIFEST_DIR"), "/../../target/bin/listing");
     let mut seeded = Seeded(1);
-    let mut tried = Tried { cases: 0, wrong: vec![] };
+    let mut tried = Tried::default();
     for length in [0, 1, 6, 7, 8, 13, 14, 4101, 4102, 10_000] {
         tried.cases += 1;
         let bytes: Vec<u8> = (0..length).map(|_| seeded.next() as u8).collect();
@@ -137,9 +142,16 @@ fn listing() -> Tried {
 
 fn main() {
     let suites: Vec<(&str, Tried)> = vec![
-        ("head order, outside cases", vector_file("head_order.txt")),
-        ("writing at 6250, outside cases", vector_file("write6250.txt")),
+        ("head order, outside cases", vector_file("head_order.txt", vectors::run)),
+        ("writing at 6250, outside cases", vector_file("write6250.txt", vectors::run)),
+        ("reading at 6250, outside cases", vector_file("read6250.txt", vectors::run)),
+        ("the reader of these tests, outside cases", vector_file("read6250.txt", |line| vectors::read6250(line, reading6250::read))),
+        ("bench readings", bench::readings()),
         ("seeded writes at 6250", random_writes()),
+        ("every number in a group at 6250, forward", damage6250::every_number(Direction::Forward)),
+        ("every number in a group at 6250, backward", damage6250::every_number(Direction::Backward)),
+        ("seeded readings at 6250, forward", damage6250::random_readings(Direction::Forward)),
+        ("seeded readings at 6250, backward", damage6250::random_readings(Direction::Backward)),
         ("the listing program", listing()),
         ("every map to physical", every_map(Toward::Physical)),
         ("every map to algebraic", every_map(Toward::Algebraic)),
@@ -149,7 +161,7 @@ fn main() {
     let mut failed = 0;
     for (name, tried) in &suites {
         println!("{name}: {} cases, {} differ", tried.cases, tried.wrong.len());
-        for what in tried.wrong.iter().take(5) {
+        for what in tried.remarks.iter().chain(tried.wrong.iter().take(5)) {
             println!("  {what}");
         }
         failed += usize::from(!tried.wrong.is_empty() || tried.cases == 0);

@@ -3,7 +3,7 @@
 use crate::library::Answer;
 
 /// Document 01's codes for 0 to 15.
-const CODES: [u16; 16] = [25, 27, 18, 19, 29, 21, 22, 23, 26, 9, 10, 11, 30, 13, 14, 15];
+pub const CODES: [u16; 16] = [25, 27, 18, 19, 29, 21, 22, 23, 26, 9, 10, 11, 30, 13, 14, 15];
 
 /// Multiplication by the variable modulo g = 1 + X^3 + X^4 + X^5 + X^8.
 fn times_t(byte: u8) -> u8 {
@@ -17,7 +17,7 @@ fn times_t(byte: u8) -> u8 {
 }
 
 /// The nine track values of the group of seven information bytes, B7 first.
-fn group(info: &[u8]) -> [u8; 9] {
+pub fn group(info: &[u8]) -> [u8; 9] {
     let mut b = [0u8; 8];
     for i in 1..8 {
         b[i] = info[7 - i];
@@ -39,17 +39,28 @@ fn group(info: &[u8]) -> [u8; 9] {
     tracks
 }
 
-fn word(byte: u8) -> u16 {
+/// The word that records a track value.
+pub fn word(byte: u8) -> u16 {
     CODES[usize::from(byte >> 4)] << 5 | CODES[usize::from(byte & 15)]
 }
 
-/// The words of the written record.
-pub fn written(data: &[u8]) -> Vec<u16> {
+/// The data with their padding: zero bytes, and a byte that tells how many.
+pub fn body(data: &[u8]) -> Vec<u8> {
     let mut body = data.to_vec();
     let padding = (0..7).find(|p| (data.len() + p + 1) % 7 == 0).unwrap();
     body.resize(data.len() + padding, 0);
     body.push(padding as u8);
+    body
+}
+
+/// The words of the groups cut from a body, which need not be one that a writer leaves.
+pub fn words_of_body(body: &[u8]) -> Vec<u16> {
     body.chunks(7).flat_map(|info| group(info).map(word)).collect()
+}
+
+/// The words of the written record.
+pub fn written(data: &[u8]) -> Vec<u16> {
+    words_of_body(&body(data))
 }
 
 pub fn write(data: &[u8], words: &mut [u16]) -> Answer {

@@ -1,12 +1,18 @@
 //! The outside cases of tests/vectors, a line a case: fields between ` | `, numbers in decimal.
 
-use crate::library::{self, Answer, Toward};
+use crate::library::{self, Answer, Direction, Toward};
+use std::fmt::Debug;
 
 /// What lies in an output before a call, so that a store anywhere shows.
 pub const LENT: u16 = 0xA5C3;
+pub const LENT_BYTE: u8 = 0xC3;
 
 pub fn numbers(field: &str) -> Vec<u64> {
     field.split_whitespace().map(|word| word.parse().expect("a decimal number")).collect()
+}
+
+fn bytes_of(field: &str) -> Vec<u8> {
+    numbers(field).iter().map(|&n| n as u8).collect()
 }
 
 fn words_of(field: &str) -> Vec<u16> {
@@ -19,7 +25,7 @@ fn refused(field: &str) -> Option<Answer> {
 }
 
 /// What differs between an answer with its output, and what a case prescribes.
-fn compare(got: Answer, want: Answer, output: &[u16], after: &[u16]) -> Result<(), String> {
+fn compare<T: PartialEq + Debug>(got: Answer, want: Answer, output: &[T], after: &[T]) -> Result<(), String> {
     if got == want && output == after { Ok(()) } else { Err(format!("{got:?}, output {output:?}")) }
 }
 
@@ -30,8 +36,15 @@ fn lent(space: usize, result: &[u16]) -> Vec<u16> {
     output
 }
 
+/// The same for an output of bytes.
+fn lent_bytes(space: usize, result: &[u8]) -> Vec<u8> {
+    let mut output = vec![LENT_BYTE; space];
+    output[..result.len()].copy_from_slice(result);
+    output
+}
+
 fn write6250(fields: &[&str], space: usize) -> Result<(), String> {
-    let bytes: Vec<u8> = numbers(fields[1]).iter().map(|&n| n as u8).collect();
+    let bytes = bytes_of(fields[1]);
     let mut words = lent(space, &[]);
     let got = library::write6250(&bytes, &mut words);
     match refused(fields[2]) {
@@ -43,12 +56,39 @@ fn write6250(fields: &[&str], space: usize) -> Result<(), String> {
     }
 }
 
+/// The library's reader, or another that is to answer as it does.
+pub type Reader = fn(Direction, &[u16], &[u16], &mut [u8]) -> Answer;
+
+/// Runs one case of reading at 6250 with a reader and tells what differs.
+pub fn read6250(line: &str, reader: Reader) -> Result<(), String> {
+    let fields: Vec<&str> = line.split('|').collect();
+    let head: Vec<&str> = fields[0].split_whitespace().collect();
+    let direction = match head[1] {
+        "forward" => Direction::Forward,
+        "backward" => Direction::Backward,
+        other => return Err(format!("no direction: {other}")),
+    };
+    let space: usize = head[2].parse().unwrap();
+    let mut output = lent_bytes(space, &[]);
+    let got = reader(direction, &words_of(fields[1]), &words_of(fields[2]), &mut output);
+    match refused(fields[3]) {
+        Some(want) => compare(got, want, &output, &lent_bytes(space, &[])),
+        None => {
+            let want = Answer::Delivered(numbers(fields[3].trim().strip_prefix("delivered").unwrap()));
+            compare(got, want, &output, &lent_bytes(space, &bytes_of(fields[4])))
+        }
+    }
+}
+
 /// Runs one case and tells what differs.
 pub fn run(line: &str) -> Result<(), String> {
     let fields: Vec<&str> = line.split('|').collect();
     let head: Vec<&str> = fields[0].split_whitespace().collect();
     if head[0] == "write6250" {
         return write6250(&fields, head[1].parse().unwrap());
+    }
+    if head[0] == "read6250" {
+        return read6250(line, library::read6250);
     }
     let toward = if head[0].ends_with("to-physical") { Toward::Physical } else { Toward::Algebraic };
     if head[0].starts_with("map-") {

@@ -1,13 +1,12 @@
 -- `group_code::reading::read` meets its contract: the halves of a word turned are its halves, each turned and exchanged.
 -- Assumes nothing.
-use mathlib.Core.Path.{_≡_, refl, sym, ap, _∙_}
+use mathlib.Core.Path.{_≡_, sym, ap, _∙_}
 use mathlib.Core.Bool.{Bool, true, false}
 use Prim.Native.Nat.{ℕ, _+_, _*_, _/_, _%_, _<_}
 use native.Mathlib.Omega.{arith}
 use borrow.Author.Needs.{needs}
-use lib.ListN.{getD}
 use Rattle.group_code.specs.Code.{decoded}
-use Rattle.group_code.specs.Word.{numbers, mirroredNumbers, valueOf, illegality, reversedWord, forwardWord}
+use Rattle.group_code.specs.Word.{valueOf, illegality, reversedWord, forwardWord}
 use Rattle.group_code.proofs.Words.{number-is, mirrored-number-is, number-le, mirrored-number-le, joined-is, upper-reversed, lower-reversed}
 use Rattle.group_code.proofs.reading.read.Statement.{statement}
 use Rattle.group_code.proofs.reading.read.Tie as tie

@@ -2,24 +2,24 @@
 -- their changed words are counted.
 -- Assumes nothing.
 use mathlib.Core.Path.{_≡_, refl, sym, ap, ap₂, _∙_}
-use mathlib.Core.Bool.{Bool, true, false}
-use mathlib.Core.List.{List, [], _∷_, _++_}
-use Prim.Native.Nat.{ℕ, _+_, _-_, _*_, _<_, _≤_}
+use mathlib.Core.Bool.{true}
+use mathlib.Core.List.{[], _∷_}
+use Prim.Native.Nat.{ℕ, _+_, _-_, _*_, _≤_}
 use native.Mathlib.Nat.{not-suc-le-zero, lt-irrefl}
 use native.Mathlib.Omega.{arith}
 use denote.Ref.{now}
 use lib.Count.{ones}
-use lib.ListN.{length, getD, drop, length-drop}
+use lib.ListN.{length, length-drop}
 use Rattle.indexed.specs.List.{total, blocks}
 use Rattle.indexed.proofs.Blocks.{stored}
 use Rattle.indexed.proofs.Part.{part-to-end}
-use Rattle.answer.specs.Answer.{delivered, refused}
-use Rattle.rectangular.specs.Correction.{corrected, manyPointed, noGroup}
-use Rattle.rectangular.specs.Judged.{correctedValues, toldJudged, toldChanged}
+use Rattle.answer.specs.Answer.{delivered}
+use Rattle.rectangular.specs.Correction.{manyPointed, noGroup}
+use Rattle.rectangular.specs.Judged.{toldJudged}
 use Rattle.record6250.specs.Group.{isCorrected, reasonOf, rightBytes}
-use Rattle.record6250.specs.Read.{judgement, changedTracks, firstUnfit, readBody, changes}
+use Rattle.record6250.specs.Read.{judgement, changedTracks, readBody, changes}
 use Rattle.record6250.proofs.FittingGroup.{length-rightBytes}
-use Rattle.record6250.proofs.Reading.{words-long, groups-within}
+use Rattle.record6250.proofs.Reading.{groups-within}
 use Rattle.record6250.proofs.Scan.{one-more-below}
 use Rattle.record6250.proofs.Scanned.{packed-bytes, told-corrected, told-changed, AllFit, unfit-at, unfit-answer, all-answer, changedTo, changed-le, ones-changed-le, changed-more}
 use Rattle.record6250.proofs.Stored.{next-stored}

@@ -1,16 +1,12 @@
 -- `record6250::reader::delivered` meets its contract.
 -- Assumes nothing.
-use mathlib.Core.Path.{_≡_, refl, sym, ap, ap₂, _∙_}
-use mathlib.Core.Bool.{Bool, true, false, cond, _&&_}
-use mathlib.Core.List.{List, [], _∷_, _++_}
-use Prim.Native.Nat.{ℕ, _+_, _-_, _*_, _<_, _≤_}
-use native.Mathlib.Nat.{mul-comm}
+use mathlib.Core.Path.{refl, sym, ap₂, _∙_}
+use mathlib.Core.List.{List, _++_}
+use Prim.Native.Nat.{ℕ}
 use native.Mathlib.Omega.{arith}
 use denote.Ref.{now}
-use lib.ListN.{length, getD, take, drop}
-use Rattle.answer.specs.Answer.{Answer, delivered, refused, outputAfter}
-use lib.Seq.{length-take-le}
-use Rattle.record6250.specs.Read.{unpadded}
+use lib.ListN.{drop}
+use Rattle.answer.specs.Answer.{delivered, outputAfter}
 use Rattle.record6250.proofs.Delivery.{bytes-long, data-is, data-long, suits-answer, padding-answer, last-six}
 use borrow.Author.Needs.{needs}
 use Rattle.record6250.proofs.reader.delivered.Statement.{statement}

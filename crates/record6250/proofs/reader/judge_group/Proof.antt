@@ -1,21 +1,17 @@
 -- `record6250::reader::judge_group` meets its contract: the group is the definition's, and so is what is told of it.
 -- Assumes nothing.
-use mathlib.Core.Path.{_≡_, refl, sym, ap, ap₂, _∙_}
-use mathlib.Core.Bool.{Bool, true, false, false≢true}
-use mathlib.Core.List.{List}
-use Prim.Native.Nat.{ℕ, _+_, _*_, _^_, _<_, _≤_}
+use mathlib.Core.Path.{_≡_, sym, ap, ap₂, _∙_}
+use mathlib.Core.Bool.{false≢true}
+use Prim.Native.Nat.{_<_}
 use native.Mathlib.Omega.{arith}
 use denote.Ref.{now}
 use lib.Bits.{bitOr, or-lt}
 use lib.ListN.{length, getD}
 use Rattle.register.proofs.Ones.{tabulated-lt}
-use Rattle.indexed.specs.List.{turnedPlace}
 use Rattle.rectangular.specs.Correction.{corrected}
-use Rattle.rectangular.specs.Judged.{correctedValues, toldJudged, toldChanged, changedBy, changedMap}
+use Rattle.rectangular.specs.Judged.{correctedValues, toldJudged, toldChanged, changedBy}
 use Rattle.rectangular.specs.declared.group.Group.{Group}
 use Rattle.record6250.specs.Group.{illegalMap, isCorrected}
-use Rattle.record6250.specs.Picture.{mapRead}
-use Rattle.record6250.specs.Read.{readMap}
 use Rattle.record6250.specs.Received.{receivedValues}
 use Rattle.record6250.proofs.FittingGroup.{illegality-lt}
 use Rattle.record6250.proofs.GroupJudged.{lent-below, lent-group, lent-map, value-at, judgement-told, changed-told}

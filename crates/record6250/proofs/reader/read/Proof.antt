@@ -1,14 +1,11 @@
 -- `record6250::reader::read` meets its contract: each check is the definition's.
 -- Assumes nothing.
-use mathlib.Core.Path.{_≡_, refl, sym, ap, ap₂, _∙_}
-use mathlib.Core.Bool.{Bool, true, false, cond, _&&_}
-use mathlib.Core.List.{List, [], _∷_, _++_}
-use Prim.Native.Nat.{ℕ, _+_, _-_, _*_, _<_, _≤_}
-use native.Mathlib.Nat.{mul-comm}
+use mathlib.Core.Path.{_≡_, refl, sym, ap, _∙_}
+use mathlib.Core.Bool.{Bool, true, false}
 use native.Mathlib.Omega.{arith}
 use denote.Ref.{now}
-use lib.ListN.{length, getD, take, drop}
-use Rattle.answer.specs.Answer.{Answer, delivered, refused, outputAfter}
+use lib.ListN.{length}
+use Rattle.answer.specs.Answer.{Answer, refused, outputAfter}
 use mathlib.Core.Bool.{not}
 use Rattle.answer.specs.declared.Reason.the-variants.{StrayBits}
 use Rattle.answer.specs.Answer.{refusedFor}

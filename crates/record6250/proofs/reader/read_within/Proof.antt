@@ -1,15 +1,13 @@
 -- `record6250::reader::read_within` meets its contract.
 -- Assumes nothing.
-use mathlib.Core.Path.{_≡_, refl, sym, ap, ap₂, _∙_}
-use mathlib.Core.Bool.{Bool, true, false, cond, _&&_}
-use mathlib.Core.List.{List, [], _∷_, _++_}
-use Prim.Native.Nat.{ℕ, _+_, _-_, _*_, _<_, _≤_}
-use native.Mathlib.Nat.{mul-comm}
+use mathlib.Core.Path.{refl, sym, ap, ap₂, _∙_}
+use mathlib.Core.List.{List}
+use Prim.Native.Nat.{ℕ, _*_}
 use native.Mathlib.Omega.{arith}
 use denote.Ref.{now}
-use lib.ListN.{length, getD, take, drop}
-use Rattle.answer.specs.Answer.{Answer, delivered, refused, outputAfter}
-use Rattle.record6250.specs.Read.{unpadded, readBody, readData, changes, judgedAnswer}
+use lib.ListN.{length, take}
+use Rattle.answer.specs.Answer.{delivered, outputAfter}
+use Rattle.record6250.specs.Read.{unpadded, readData, changes}
 use Rattle.record6250.specs.Told.{toldRead, toldScan, paddingAnswer}
 use Rattle.record6250.proofs.Delivery.{scan-fits, scan-unfit, fit-answer, body-long, body-in-front}
 use Rattle.record6250.proofs.Reading.{groups-within}

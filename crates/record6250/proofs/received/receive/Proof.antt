@@ -1,10 +1,9 @@
 -- `record6250::received::receive` meets its contract. The loop's invariant: the first `k` words are gathered.
 -- Assumes nothing.
-use mathlib.Core.Path.{_≡_, refl, sym, ap, ap₂, _∙_}
+use mathlib.Core.Path.{_≡_, refl, sym, ap, _∙_}
 use mathlib.Core.Bool.{Bool, cond}
 use mathlib.Core.List.{List}
-use Prim.Native.Nat.{ℕ, suc, _+_, _-_, _*_, _%_, _^_, _<_, _≤_}
-use native.Mathlib.Numerals.{add-one}
+use Prim.Native.Nat.{ℕ, _+_, _-_, _^_, _<_, _≤_}
 use native.Mathlib.Omega.{arith}
 use native.Mathlib.Nat.{lt-of-lt-of-le}
 use borrow.Author.Needs.{needs}
@@ -17,7 +16,6 @@ use Rattle.indexed.specs.List.{tabulate, tabulateFrom}
 use Rattle.register.specs.Bit.{ofBits}
 use Rattle.group_code.specs.Word.{valueOf, forwardWord}
 use Rattle.record6250.specs.Received.{packed}
-use Rattle.record6250.proofs.Packing.{bits-more}
 use Rattle.record6250.proofs.Receiving.{value-part, mark-part, low, mark, marks-lt, packed-fits, more-packed, more-marks, all-values, all-marks}
 use Rattle.record6250.proofs.received.receive.Statement.{statement}
 use Rattle.record6250.proofs.received.receive.Tie as tie

@@ -1,13 +1,12 @@
 -- `record6250::stray::first_stray` meets its contract. The loop's invariant: none of the first `g` groups has a stray bit.
 -- Assumes nothing.
-use mathlib.Core.Path.{_≡_, sym, ap, _∙_}
-use mathlib.Core.Bool.{Bool, false}
-use Prim.Native.Nat.{ℕ, _+_, _-_, _*_, _<_, _≤_}
+use mathlib.Core.Path.{_≡_, sym, _∙_}
+use mathlib.Core.Bool.{false}
+use Prim.Native.Nat.{ℕ, _-_, _<_, _≤_}
 use native.Mathlib.Nat.{not-suc-le-zero}
 use native.Mathlib.Omega.{arith}
 use denote.Ref.{now}
-use lib.ListN.{length, getD}
-use Rattle.indexed.specs.List.{firstBelow, turnedPlace}
+use lib.ListN.{length}
 use Rattle.indexed.proofs.Below.{first-below-at, first-below-none}
 use Rattle.record6250.specs.Group.{stray}
 use Rattle.record6250.specs.Read.{readGroup, readMap, firstStray}

@@ -1,19 +1,14 @@
 -- `record6250::stray::is_stray` meets its contract. The loop's invariant: none of the first `k` words has a stray bit.
 -- Assumes nothing.
-use mathlib.Core.Path.{_≡_, refl, sym, ap, ap₂, _∙_}
-use Prim.Native.Nat.{ℕ, zero, suc, _+_, _-_, _*_, _/_, _%_, _^_, _<_, _≤_}
+use mathlib.Core.Path.{_≡_, sym}
+use Prim.Native.Nat.{ℕ, _+_, _-_, _<_, _≤_}
 use native.Mathlib.Omega.{arith}
-use native.Mathlib.Numerals.{add-one}
 use native.Mathlib.Nat.{not-suc-le-zero}
 use denote.Ref.{now}
-use mathlib.Core.Bool.{Bool, true, false, cond, not, _&&_, _||_}
-use mathlib.Core.List.{List, _++_}
-use lib.Dec.{ltb, leb, eqb}
-use borrow.Author.Tests.{lt-ltb, le-ltb, eq-eqb, ne-eqb}
-use lib.ListN.{length, getD, take, drop, set, length-set}
-use Rattle.indexed.specs.List.{firstBelow}
-use Rattle.indexed.proofs.Below.{first-below-at, first-below-none}
-use Rattle.record6250.specs.Stray.{strayAt}
+use mathlib.Core.Bool.{false}
+use lib.Dec.{ltb}
+use borrow.Author.Tests.{le-ltb}
+use lib.ListN.{getD}
 use Rattle.record6250.proofs.Scan.{one-more-below, stray-word, no-stray-word}
 use borrow.Author.Needs.{needs}
 use Rattle.record6250.proofs.stray.is_stray.Statement.{statement}

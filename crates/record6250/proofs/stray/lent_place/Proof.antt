@@ -1,15 +1,8 @@
 -- `record6250::stray::lent_place` meets its contract.
 -- Assumes nothing.
-use mathlib.Core.Path.{_≡_, refl, sym, ap, ap₂, _∙_}
-use Prim.Native.Nat.{ℕ, zero, suc, _+_, _-_, _*_, _/_, _%_, _^_, _<_, _≤_}
-use native.Mathlib.Omega.{arith}
-use native.Mathlib.Numerals.{add-one}
-use denote.Ref.{now}
-use mathlib.Core.Bool.{Bool, true, false, cond, not, _&&_, _||_}
-use mathlib.Core.List.{List, _++_}
-use lib.Dec.{ltb, leb, eqb}
-use borrow.Author.Tests.{lt-ltb, le-ltb, eq-eqb, ne-eqb}
-use lib.ListN.{length, getD, take, drop, set, length-set}
+use mathlib.Core.Path.{sym, ap}
+use Prim.Native.Nat.{_-_}
+use mathlib.Core.Bool.{Bool, cond}
 use Rattle.indexed.specs.List.{turnedPlace}
 use borrow.Author.Needs.{needs}
 use Rattle.record6250.proofs.stray.lent_place.Statement.{statement}

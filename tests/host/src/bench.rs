@@ -1,0 +1,66 @@
+//! The bench readings of document 01 at 6250 that are not in the proved table, and what its section on reading
+//! backward says of a stray word. The answers stand here as the document has them.
+
+use crate::library::{self, Answer, Direction};
+use crate::reading6250::turned;
+use crate::record6250::written;
+use crate::vectors::{LENT, LENT_BYTE};
+use crate::Tried;
+
+/// The words of data 0x01.
+const ONE: [u16; 9] = [850, 827, 818, 827, 825, 825, 825, 827, 859];
+
+impl Tried {
+    fn expect(&mut self, name: &str, holds: bool) {
+        self.cases += 1;
+        if !holds {
+            self.wrong.push(name.to_string());
+        }
+    }
+}
+
+/// Whether groups without pointers are answered so in both directions, with these data in front of the output.
+fn reads(words: &[u16], want: Answer, data: &[u8]) -> bool {
+    let maps = vec![0; words.len() / 9];
+    let space = 7 * maps.len();
+    let mut after = vec![LENT_BYTE; space];
+    after[..data.len()].copy_from_slice(data);
+    let back = turned(words, &maps).0;
+    let answers = |direction: Direction, words: &[u16]| {
+        let mut output = vec![LENT_BYTE; space];
+        library::read6250(direction, words, &maps, &mut output) == want && output == after
+    };
+    answers(Direction::Forward, words) && answers(Direction::Backward, &back)
+}
+
+/// Word 0 of the group of 0x01 made another one.
+fn with_word_0(word: u16) -> [u16; 9] {
+    let mut words = ONE;
+    words[0] = word;
+    words
+}
+
+fn written_whole(length: usize) -> bool {
+    let data: Vec<u8> = (0..length).map(|k| (k % 251) as u8).collect();
+    let mut words = vec![LENT; 9 * 587];
+    let answer = library::write6250(&data, &mut words);
+    let mut after = written(&data);
+    after.resize(words.len(), LENT);
+    answer == Answer::Delivered(vec![586]) && words == after && reads(&words[..9 * 586], Answer::Delivered(vec![length as u64, 0]), &data)
+}
+
+fn refused_whole(length: usize) -> bool {
+    let mut words = vec![LENT; 9 * 587];
+    library::write6250(&vec![0; length], &mut words) == Answer::Refused(1, 0) && words.iter().all(|&word| word == LENT)
+}
+
+pub fn readings() -> Tried {
+    let mut tried = Tried::default();
+    tried.expect("word 0 made 1,024: refusal 3", reads(&with_word_0(1024), Answer::Refused(3, 0), &[]));
+    tried.expect("word 0 made 1,023: no refusal 3", reads(&with_word_0(1023), Answer::Delivered(vec![1, 1]), &[1]));
+    let stray_last = [ONE, ONE, with_word_0(1024)].concat();
+    tried.expect("a stray word keeps its forward place", reads(&stray_last, Answer::Refused(3, 2), &[]));
+    tried.expect("4,101 bytes are written", written_whole(4101));
+    tried.expect("4,102 bytes are refused", refused_whole(4102));
+    tried
+}

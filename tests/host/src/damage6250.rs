@@ -1,0 +1,264 @@
+//! Seeded readings at 6250, damaged in the ways that document 01 speaks of and in combinations of them.
+//! The library and the reader of these tests answer each, and their outputs are compared whole.
+
+use crate::library::{self, Answer, Direction};
+use crate::reading6250::{self, byte_of, turned};
+use crate::record6250::{body, word, words_of_body};
+use crate::vectors::LENT_BYTE;
+use crate::{Seeded, Tried};
+
+const CASES: usize = 200_000;
+
+/// Bytes behind the lent output, which no call may reach.
+const BEHIND: usize = 16;
+
+/// A reading in forward order.
+struct Reading {
+    words: Vec<u16>,
+    maps: Vec<u16>,
+}
+
+fn index(seeded: &mut Seeded, bound: usize) -> usize {
+    seeded.below(bound as u64) as usize
+}
+
+/// Once in so many.
+fn once_in(seeded: &mut Seeded, bound: u64) -> bool {
+    seeded.below(bound) == 0
+}
+
+/// Short data mostly, and the limits: 4,101 bytes are 586 groups.
+fn random_data(seeded: &mut Seeded, case: usize) -> Vec<u8> {
+    let length = match case % 64 {
+        0 => 4101 - index(seeded, 14),
+        1..=3 => index(seeded, 700),
+        _ => index(seeded, 30),
+    };
+    // zero bytes before the padding show whether it is told from the data
+    let mask = [0xFF, 0xFF, 0xFF, 0x81, 0x01, 0][index(seeded, 6)];
+    (0..length).map(|_| seeded.next() as u8 & mask).collect()
+}
+
+/// Makes the last byte another one, too large or not, or one of the bytes that it counts nonzero.
+fn break_padding(seeded: &mut Seeded, body: &mut [u8]) {
+    let last = body.len() - 1;
+    match seeded.below(4) {
+        0 => body[last] = 7 + seeded.below(249) as u8,
+        1 => body[last] = seeded.below(9) as u8,
+        _ => {
+            let padding = 1 + index(seeded, 6);
+            body[last - padding..last].fill(0);
+            body[last] = padding as u8;
+            body[last - 1 - index(seeded, padding)] = 1 + seeded.below(255) as u8;
+        }
+    }
+}
+
+fn illegal(seeded: &mut Seeded) -> u16 {
+    loop {
+        let word = seeded.below(1024) as u16;
+        if byte_of(word).is_none() {
+            return word;
+        }
+    }
+}
+
+/// The tracks in any order, so that a few in front are a choice of tracks.
+fn shuffled(seeded: &mut Seeded) -> [usize; 9] {
+    let mut tracks = [0, 1, 2, 3, 4, 5, 6, 7, 8];
+    for k in (1..9).rev() {
+        tracks.swap(k, index(seeded, k + 1));
+    }
+    tracks
+}
+
+fn map_of(tracks: &[usize]) -> u16 {
+    tracks.iter().map(|track| 1 << track).sum()
+}
+
+/// Damages some tracks of a group: exchanges them, or gives them other words, all in one way or each in its own.
+fn damage_tracks(seeded: &mut Seeded, words: &mut [u16], tracks: &[usize]) {
+    let way = seeded.below(6);
+    if way == 5 {
+        tracks.windows(2).for_each(|pair| words.swap(pair[0], pair[1]));
+        return;
+    }
+    for &track in tracks {
+        match if way == 4 { seeded.below(4) } else { way } {
+            0 => words[track] = word(seeded.next() as u8),
+            1 => words[track] = seeded.below(1024) as u16,
+            2 => words[track] = illegal(seeded),
+            _ => words[track] ^= 1 << seeded.below(10),
+        }
+    }
+}
+
+/// Damages up to three tracks of a group, or all, and points at tracks that need not be the damaged ones:
+/// the pointed ones follow one another in the same choice of tracks, from a damaged or a healthy one on.
+fn damage_group(seeded: &mut Seeded, words: &mut [u16], map: &mut u16) {
+    let tracks = shuffled(seeded);
+    let damaged = match seeded.below(16) {
+        0 | 1 => 0,
+        2..=7 => 1,
+        8..=13 => 2,
+        14 => 3,
+        _ => 9,
+    };
+    damage_tracks(seeded, words, &tracks[..damaged]);
+    *map |= match seeded.below(16) {
+        0..=5 => 0,
+        6..=9 => map_of(&tracks[..damaged]),
+        10..=14 => {
+            let from = index(seeded, damaged.min(3) + 1);
+            map_of(&tracks[from..from + [0, 1, 1, 2, 2, 3][index(seeded, 6)]])
+        }
+        _ => seeded.below(512) as u16,
+    };
+}
+
+/// Damages the same tracks in every group, as a weak head does, and points at them, at others or at none.
+fn damage_record(seeded: &mut Seeded, reading: &mut Reading) {
+    let tracks = shuffled(seeded);
+    let damaged = 1 + index(seeded, 2);
+    let pointed = [0, map_of(&tracks[..damaged]), map_of(&tracks[1..3])][index(seeded, 3)];
+    let exchanged = once_in(seeded, 4);
+    for (group, map) in reading.words.chunks_mut(9).zip(&mut reading.maps) {
+        if exchanged {
+            group.swap(tracks[0], tracks[1]);
+        } else {
+            damage_tracks(seeded, group, &tracks[..damaged]);
+        }
+        *map |= pointed;
+    }
+}
+
+/// A word or a map beyond its width, by one or by anything.
+fn stray(seeded: &mut Seeded, reading: &mut Reading) {
+    let place = index(seeded, reading.maps.len());
+    let (numbers, place, limit) = match seeded.below(2) {
+        0 => (&mut reading.words, 9 * place + index(seeded, 9), 1024),
+        _ => (&mut reading.maps, place, 512),
+    };
+    numbers[place] = if once_in(seeded, 3) { limit } else { limit + seeded.below(65536 - u64::from(limit)) as u16 };
+}
+
+/// Lengths that do not suit, and a whole number of groups less, which does.
+fn wrong_lengths(seeded: &mut Seeded, reading: &mut Reading) {
+    let (words, maps) = (reading.words.len(), reading.maps.len());
+    match seeded.below(10) {
+        0 => reading.words.truncate(words - 1 - index(seeded, 9)),
+        1 => reading.words.resize(words + 1 + index(seeded, 9), word(0)),
+        2 => reading.maps.truncate(maps - 1),
+        3 => reading.maps.push(0),
+        4 => reading.maps.clear(),
+        5 => reading.words.clear(),
+        6 => *reading = Reading { words: vec![], maps: vec![] },
+        7 => reading.maps.resize(words, 0),
+        8 => *reading = Reading { words: words_of_body(&[0; 7 * 587]), maps: vec![0; 587] },
+        _ => {
+            let left = index(seeded, maps);
+            reading.words.truncate(9 * left);
+            reading.maps.truncate(left);
+        }
+    }
+}
+
+/// A reading of some record, undamaged or damaged in one way or in several.
+fn random_reading(seeded: &mut Seeded, case: usize) -> Reading {
+    let mut body = body(&random_data(seeded, case));
+    if once_in(seeded, 10) {
+        break_padding(seeded, &mut body);
+    }
+    let groups = body.len() / 7;
+    let mut reading = Reading { words: words_of_body(&body), maps: vec![0; groups] };
+    for _ in 0..[0, 1, 1, 1, 2, 3][index(seeded, 6)] {
+        let place = index(seeded, groups);
+        damage_group(seeded, &mut reading.words[9 * place..9 * place + 9], &mut reading.maps[place]);
+    }
+    if once_in(seeded, 16) {
+        damage_record(seeded, &mut reading);
+    }
+    if once_in(seeded, 16) {
+        stray(seeded, &mut reading);
+        if once_in(seeded, 2) {
+            stray(seeded, &mut reading);
+        }
+    }
+    if once_in(seeded, 16) {
+        wrong_lengths(seeded, &mut reading);
+    }
+    reading
+}
+
+/// The least space for so many groups, somewhat more, or less.
+fn random_space(seeded: &mut Seeded, groups: usize) -> usize {
+    let least = (7 * groups).saturating_sub(1);
+    match seeded.below(24) {
+        0 => least.saturating_sub(1),
+        1 => index(seeded, least + 1),
+        2..=12 => least,
+        _ => least + index(seeded, 12),
+    }
+}
+
+/// How a case is told; a long one by its number and lengths only.
+fn told(case: usize, words: &[u16], maps: &[u16]) -> String {
+    match maps.len() {
+        0..=5 => format!("case {case}: words {words:?}, maps {maps:?}"),
+        groups => format!("case {case}: {} words, {groups} maps", words.len()),
+    }
+}
+
+/// One reading answered by the library and by the reader of these tests; what the latter answered.
+fn compare(tried: &mut Tried, direction: Direction, reading: Reading, space: usize) -> Answer {
+    let (words, maps) = match direction {
+        Direction::Forward => (reading.words, reading.maps),
+        Direction::Backward => turned(&reading.words, &reading.maps),
+    };
+    let mut output = vec![LENT_BYTE; space + BEHIND];
+    let mut after = vec![LENT_BYTE; space + BEHIND];
+    let got = library::read6250(direction, &words, &maps, &mut output[..space]);
+    let want = reading6250::read(direction, &words, &maps, &mut after[..space]);
+    if got != want || output != after {
+        tried.wrong.push(format!("{}, space {space}: {got:?} for {want:?}", told(tried.cases, &words, &maps)));
+    }
+    tried.cases += 1;
+    want
+}
+
+/// Every number as a word of every track of a group, and every number as its map.
+pub fn every_number(direction: Direction) -> Tried {
+    let mut tried = Tried::default();
+    let words = words_of_body(&body(&[212]));
+    for number in 0..=u16::MAX {
+        for track in 0..9 {
+            let mut damaged = words.clone();
+            damaged[track] = number;
+            compare(&mut tried, direction, Reading { words: damaged, maps: vec![0] }, 6);
+        }
+        compare(&mut tried, direction, Reading { words: words.clone(), maps: vec![number] }, 6);
+    }
+    tried
+}
+
+pub fn random_readings(direction: Direction) -> Tried {
+    let mut seeded = Seeded(matches!(direction, Direction::Backward) as u64);
+    let mut tried = Tried::default();
+    let (mut answers, mut changed) = ([0; 7], 0);
+    for case in 0..CASES {
+        let reading = random_reading(&mut seeded, case);
+        let space = random_space(&mut seeded, reading.maps.len());
+        match compare(&mut tried, direction, reading, space) {
+            Answer::Delivered(values) => {
+                answers[0] += 1;
+                changed += usize::from(values[1] > 0);
+            }
+            Answer::Refused(number, _) => answers[usize::from(number)] += 1,
+        }
+    }
+    tried.remarks.push(format!("answers 0 (delivered) to 6: {answers:?}; deliveries with changed words: {changed}"));
+    for number in (0..7).filter(|&number| answers[number] == 0) {
+        tried.wrong.push(format!("no case is answered by {number}"));
+    }
+    tried
+}
