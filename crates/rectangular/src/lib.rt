@@ -1,7 +1,7 @@
 // The rectangular code of document 000: its constants, its register, its groups, and products with bytes.
 pub mod group;
 pub mod judge;
-pub mod product;
+mod product;
 pub mod transpose;
 
 ghost use mathlib.Core.Path.{_≡_};

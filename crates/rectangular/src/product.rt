@@ -55,7 +55,7 @@ fn backward_columns(i: usize) -> u64
 }
 
 // The inverse of I + T^d times x.
-pub fn erasure_product(d: usize, x: u8) -> u8
+pub(crate) fn erasure_product(d: usize, x: u8) -> u8
     requires { ⌜ (1 ≤ d) × (d ≤ 7) ⌝ }
     ensures { λ r. ⌜ r ≡ erasure 8 feedback exponent d x ⌝ }
 {
@@ -63,7 +63,7 @@ pub fn erasure_product(d: usize, x: u8) -> u8
 }
 
 // T^-i times x.
-pub fn backward_power(i: usize, x: u8) -> u8
+pub(crate) fn backward_power(i: usize, x: u8) -> u8
     requires { ⌜ i < 8 ⌝ }
     ensures { λ r. ⌜ r ≡ shifts 8 feedback (exponent - i) x ⌝ }
 {
@@ -71,7 +71,7 @@ pub fn backward_power(i: usize, x: u8) -> u8
 }
 
 // T^i times x, of equation (14): X^i x, of which the part above eight bits is reduced.
-pub fn forward_power(i: usize, x: u8) -> u8
+pub(crate) fn forward_power(i: usize, x: u8) -> u8
     requires { ⌜ i < 8 ⌝ }
     ensures { λ r. ⌜ r ≡ shifts 8 feedback i x ⌝ }
 {
