@@ -45,6 +45,20 @@ uint16_t rindthok_write6250(const uint8_t *bytes, size_t byte_count, uint16_t *w
 uint16_t rindthok_read6250_forward(const uint16_t *words, size_t word_count, const uint16_t *maps, size_t map_count, uint8_t *output, size_t output_space, size_t *size, size_t *changes, size_t *place);
 uint16_t rindthok_read6250_backward(const uint16_t *words, size_t word_count, const uint16_t *maps, size_t map_count, uint8_t *output, size_t output_space, size_t *size, size_t *changes, size_t *place);
 
+/* Writes an 800 record: 1 to 2048 bytes as characters of nine bits, then the check character and the
+ * longitudinal character, at the front of `characters`, and stores how many there are: two more than bytes.
+ * Refusals: 1 if there are not 1 to 2048 bytes, 2 if the space is short; `count` is then as it was. */
+uint16_t rindthok_write800(const uint8_t *bytes, size_t byte_count, uint16_t *characters, size_t character_space, size_t *count, size_t *place);
+
+/* Reads an 800 record. If exactly one written record differs from the reading in one track at most, it is
+ * delivered: its data at the front of `output`, their length in `size`, in `track` the corrected track, 9 if
+ * nothing differs, and in `changes` how many characters differ. Backward, the characters come last first; the
+ * answer is that of the forward reading, places too. Refusals, from top to bottom: 1 if there are not 3 to 2050
+ * characters; 2 if the output has under two bytes less than there are characters; 3 if a character is above 511;
+ * 7 if no written record fits; 8 if more than one does. All else is then as it was. */
+uint16_t rindthok_read800_forward(const uint16_t *characters, size_t character_count, uint8_t *output, size_t output_space, size_t *size, size_t *track, size_t *changes, size_t *place);
+uint16_t rindthok_read800_backward(const uint16_t *characters, size_t character_count, uint8_t *output, size_t output_space, size_t *size, size_t *track, size_t *changes, size_t *place);
+
 /* Nine words of ten bits from code order (algebraic track a at index a) to head order (physical track
  * p, 1 to 9, at index p - 1), by the order of document 000, note 11; and back. The target has space
  * for nine or more. Refusals: 1 if there are not nine words, 2 if the space is short, 3 if a word is

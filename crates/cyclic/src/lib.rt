@@ -1,5 +1,7 @@
 // The check characters of document 003: the code's constants, and its two registers.
 ghost use mathlib.Core.Path.{_≡_};
+ghost use Prim.Native.Nat.{_*_, _<_};
+ghost use Rattle.register.specs.Xor.{_⊕_};
 ghost use Rattle.cyclic.specs.Constants.{timesX};
 
 // The check register (CRCR) and the error-pattern register (EPR) of document 003, figure 1.
@@ -11,6 +13,10 @@ pub struct Code800 {
 impl Code800 {
     // What X^9 leaves modulo G = 1 + X^3 + X^4 + X^5 + X^6 + X^9.
     pub const FEEDBACK: u16 = 121;
+    // G2, which is added to the check character: what the check register holds after a record without error.
+    pub const OFFSET: u16 = 471;
+    // A record's data are at most so many bytes.
+    pub const MOST_DATA: usize = 2048;
 
     // Both registers before any character: all zeros.
     pub fn fresh() -> Code800
@@ -27,10 +33,22 @@ impl Code800 {
             error: shift(self.error),
         }
     }
+
+    // One step (document 003, figure 1): both registers are shifted, the character is added to the first
+    // and, if its parity is wrong, X^8 to the second.
+    pub fn entered(self, character: u16, wrong: u16) -> Code800
+        requires { ⌜ wrong < 2 ⌝ }
+        ensures { λ r. ⌜ (r .check ≡ timesX (self .check) ⊕ character) × (r .error ≡ timesX (self .error) ⊕ wrong * 256) ⌝ }
+    {
+        Code800 {
+            check: shift(self.check) ^ character,
+            error: shift(self.error) ^ (wrong * 256),
+        }
+    }
 }
 
 // X times a polynomial, modulo G.
-fn shift(a: u16) -> u16
+pub fn shift(a: u16) -> u16
     ensures { λ r. ⌜ r ≡ timesX a ⌝ }
 {
     (a % 256) * 2 ^ (a / 256) * Code800::FEEDBACK

@@ -1,5 +1,6 @@
 // The library for C: each call on slices of numbers, each answer as numbers. A call returns 0 for a
 // delivery, or the refusal's number, and stores the refusal's place, or 0.
+mod characters;
 mod order;
 mod record;
 

@@ -13,6 +13,11 @@ use Rattle.group_code.specs.Word.{legalWord, valueOf, illegality, mirrored, rev
 use Rattle.rectangular.specs.Correction.{pointedTracks, paritySyndrome, checkSyndrome, weighed, erasure, secondError, errorAt, oneTrack, twoTracks, judged}
 use Rattle.rectangular.specs.Group.{information, check, character, column, track, group, informationOf}
 use Rattle.rectangular.specs.Judged.{changedMap}
+use Rattle.register.specs.Parity.{parity, parityDigits}
+use Rattle.answer.specs.Answer.{firstAbove}
+use Rattle.record800.specs.Read as eightRead
+use Rattle.record800.specs.Record as eight
+use Rattle.record800.specs.Written as eightWritten
 use Rattle.record6250.specs.Group.{stray, illegalMap, pointed, judgedGroup, isCorrected, rightValues, reasonOf, rightBytes, rightWords}
 use Rattle.record6250.specs.Picture.{groupRead, mapRead}
 use Rattle.record6250.specs.Read.{lengthsSuit, lastByte, paddingSuits, unpadded, readGroup, readMap, judgement, changedTracks, firstStray, firstUnfit, readBody, readData, changes, judgedAnswer, readAnswer}
@@ -23,5 +28,5 @@ use Rattle.terms.specs.Terms as Terms
 
 pub starred-hold : (map (λ (r : BenchReading). answered (r .call)) starred ≡ map (λ (r : BenchReading). r .answer) starred)
     × (map (λ (r : BenchReading). result (r .call)) starred ≡ map (λ (r : BenchReading). r .stored) starred)
-unfolding starred answered result Terms.answer Terms.result outputAfter writeAnswer writtenRecord firstGroups groupWords groupBytes groupsFor body padding readAnswer judgedAnswer changes readData readBody firstUnfit firstStray changedTracks judgement readMap readGroup unpadded paddingSuits lastByte lengthsSuit mapRead groupRead rightWords rightBytes reasonOf rightValues isCorrected judgedGroup pointed illegalMap stray changedMap judged twoTracks oneTrack errorAt secondError erasure weighed checkSyndrome paritySyndrome pointedTracks group track column character check information informationOf forwardWord reversedWord mirrored illegality valueOf legalWord legal decoded xorSum shift shifts bit ofBits tabulate tabulateFrom blocks firstWhere below firstBelow keep turnedPlace total ones onesIn
+unfolding starred answered result eightWritten.writeAnswer eight.writtenRecord eight.withCheck eight.longitudinal eight.checkCharacter eight.checkSum eight.characterOf eightRead.readAnswer eightRead.readData eightRead.firstStray eightRead.lengthSuits eightRead.judgedData eightRead.judgedAnswer eightRead.oneOf eightRead.holds eightRead.candidate eightRead.wrongCount eightRead.wrongParity eightRead.longitudinalRead eightRead.errorPattern eightRead.checkRead eightRead.wrong eightRead.expectedParity eightRead.picture firstAbove parity parityDigits Terms.answer Terms.result outputAfter writeAnswer writtenRecord firstGroups groupWords groupBytes groupsFor body padding readAnswer judgedAnswer changes readData readBody firstUnfit firstStray changedTracks judgement readMap readGroup unpadded paddingSuits lastByte lengthsSuit mapRead groupRead rightWords rightBytes reasonOf rightValues isCorrected judgedGroup pointed illegalMap stray changedMap judged twoTracks oneTrack errorAt secondError erasure weighed checkSyndrome paritySyndrome pointedTracks group track column character check information informationOf forwardWord reversedWord mirrored illegality valueOf legalWord legal decoded xorSum shift shifts bit ofBits tabulate tabulateFrom blocks firstWhere below firstBelow keep turnedPlace total ones onesIn
 starred-hold = (refl, refl)

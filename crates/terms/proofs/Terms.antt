@@ -10,7 +10,11 @@ use Rattle.record6250.specs.Fits as six
 use Rattle.record6250.specs.Read.{readAnswer, readData, judgedAnswer}
 use Rattle.record6250.proofs.Delivery.{all-passed}
 use Rattle.record6250.proofs.Fitting.{fits-delivered, delivered-fits, only-one}
-use Rattle.terms.specs.Terms.{Reading, at6250, Passes, Fits, told, answer, result, ThirdTerm}
+use Rattle.record800.specs.Fits as eight
+use Rattle.record800.specs.Read as eightRead
+use Rattle.record800.proofs.Deciding as eightDeciding
+use Rattle.record800.proofs.Fitting as eightFitting
+use Rattle.terms.specs.Terms.{Reading, at6250, at800, Passes, Fits, told, answer, result, ThirdTerm}
 
 module _ (backward : Bool) (words maps : List ℕ) (space : ℕ) (passes : six.Passes backward words maps) (enough : 7 * length maps - 1 ≤ space) where
   judged : readAnswer backward words maps space ≡ judgedAnswer backward words maps
@@ -28,7 +32,22 @@ module _ (backward : Bool) (words maps : List ℕ) (space : ℕ) (passes : six.P
         );
   }
 
--- the third term
+module _ (backward : Bool) (characters : List ℕ) (space : ℕ) (passes : eight.Passes backward characters) (enough : length characters - 2 ≤ space) where
+  judged-800 : eightRead.readAnswer backward characters space ≡ eightRead.judgedAnswer (length characters - 2) (eightRead.picture backward characters)
+  judged-800 = eightDeciding.all-passed backward characters space (passes .lengths) enough (le-of-eq (sym (passes .no-stray)))
+
+  third-800 : ThirdTerm (at800 backward characters) space
+  unfolding Fits told answer result
+  third-800 = record {
+    delivered-if-one = λ bytes one.
+        let d = eightFitting.fits-delivered backward characters passes bytes (one .fits) (one .only) in (judged-800 ∙ d .0, d .1);
+    one-if-delivered = λ values e.
+        let f = eightFitting.delivered-fits backward characters passes values (sym judged-800 ∙ e) in
+        (f .0, record { fits = f .1; only = f .2 });
+  }
+
+-- the third term, at both densities and in both directions
 pub third-term : (r : Reading) (space : ℕ) → Passes r space → ThirdTerm r space
 unfolding Passes
 third-term (at6250 backward words maps) space p = third-6250 backward words maps space (p .0) (p .1)
+third-term (at800 backward characters) space p = third-800 backward characters space (p .0) (p .1)

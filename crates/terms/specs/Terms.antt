@@ -7,30 +7,40 @@ use Prim.Native.Nat.{ℕ, _-_, _*_, _≤_}
 use lib.ListN.{length}
 use Rattle.answer.specs.Answer.{Answer, delivered}
 use Rattle.record6250.specs.Fits as six
-use Rattle.record6250.specs.Read.{readAnswer, readData}
+use Rattle.record6250.specs.Read as sixRead
+use Rattle.record800.specs.Fits as eight
+use Rattle.record800.specs.Read as eightRead
 
--- A reading: at 6250, whether it is backward, its words, and a pointer map for each group.
+-- A reading: whether it is backward, and, at 6250, its words and a pointer map for each group, or, at 800, its characters.
 pub data Reading : Type 0 where
   at6250 : Bool → List ℕ → List ℕ → Reading
+  at800 : Bool → List ℕ → Reading
 
 -- lengths, space and stray bits have passed: the first three rows of document 01's table
 unfoldable pub Passes : Reading → ℕ → Type 0
 Passes (at6250 backward words maps) space = six.Passes backward words maps × (7 * length maps - 1 ≤ space)
+Passes (at800 backward characters) space = eight.Passes backward characters × (length characters - 2 ≤ space)
 
 -- the written record of these data fits the reading
 unfoldable pub Fits : Reading → List ℕ → Type 0
 Fits (at6250 backward words maps) bytes = six.Fits backward words maps bytes
+Fits (at800 backward characters) bytes = eight.Fits backward characters bytes
 
--- what a delivery of these data tells: their length, and the reading's differences from their record
+-- what a delivery of these data tells: their length, and the reading's differences from their record (at 800, their track and
+-- their number)
 unfoldable pub told : Reading → List ℕ → List ℕ
 told (at6250 backward words maps) bytes = length bytes ∷ six.wordsChanged backward words maps bytes ∷ []
+told (at800 backward characters) bytes =
+    length bytes ∷ eight.trackChanged backward characters bytes ∷ eight.charactersChanged backward characters bytes ∷ []
 
 -- what the reader answers with so much space, and the data that it delivers
 unfoldable pub answer : Reading → ℕ → Answer
-answer (at6250 backward words maps) space = readAnswer backward words maps space
+answer (at6250 backward words maps) space = sixRead.readAnswer backward words maps space
+answer (at800 backward characters) space = eightRead.readAnswer backward characters space
 
 unfoldable pub result : Reading → List ℕ
-result (at6250 backward words maps) = readData backward words maps
+result (at6250 backward words maps) = sixRead.readData backward words maps
+result (at800 backward characters) = eightRead.readData backward characters
 
 -- exactly one written record fits, that of these data
 pub record OneFits (r : Reading) (bytes : List ℕ) : Type 0 where

@@ -1,9 +1,10 @@
-//! The bench readings of document 01 at 6250 that are not in the proved table, and what its section on reading
-//! backward says of a stray word. The answers stand here as the document has them.
+//! The bench readings of document 01 that are not in the proved table, and what its section on reading backward
+//! says of a stray word. The answers stand here as the document has them.
 
 use crate::library::{self, Answer, Direction};
 use crate::reading6250::turned;
 use crate::record6250::written;
+use crate::{reading800, record800};
 use crate::vectors::{LENT, LENT_BYTE};
 use crate::Tried;
 
@@ -54,7 +55,52 @@ fn refused_whole(length: usize) -> bool {
     library::write6250(&vec![0; length], &mut words) == Answer::Refused(1, 0) && words.iter().all(|&word| word == LENT)
 }
 
-pub fn readings() -> Tried {
+/// Whether characters are answered so in both directions, with these data in front of the output.
+fn reads800(characters: &[u16], want: Answer, data: &[u8]) -> bool {
+    let space = characters.len();
+    let mut after = vec![LENT_BYTE; space];
+    after[..data.len()].copy_from_slice(data);
+    let answers = |direction: Direction, characters: &[u16]| {
+        let mut output = vec![LENT_BYTE; space];
+        library::read800(direction, characters, &mut output) == want && output == after
+    };
+    answers(Direction::Forward, characters) && answers(Direction::Backward, &reading800::turned(characters))
+}
+
+fn writes_zero() -> bool {
+    let mut characters = [LENT; 4];
+    let answer = library::write800(&[0], &mut characters);
+    answer == Answer::Delivered(vec![3]) && characters == [256, 430, 174, LENT] && reads800(&characters[..3], Answer::Delivered(vec![1, 9, 0]), &[0])
+}
+
+/// Eight data bytes with track 0 wrong in the check character and in the characters of index 1, 2, 4, 6, 7 and 8.
+/// Index 8 is the first character, index 1 the eighth, and the check character follows it.
+fn wrong_at_g2(data: &[u8; 8]) -> Vec<u16> {
+    let mut characters = record800::written(data);
+    for place in [0, 1, 2, 4, 6, 7, 8] {
+        characters[place] ^= 1;
+    }
+    characters
+}
+
+fn with_longitudinal_wrong(mut characters: Vec<u16>) -> Vec<u16> {
+    characters[9] ^= 1;
+    characters
+}
+
+pub fn readings800() -> Tried {
+    let mut tried = Tried::default();
+    tried.expect("one byte 0 is 256 430 174", writes_zero());
+    for data in [[0; 8], [255; 8], [131, 212, 148, 248, 234, 1, 2, 3]] {
+        let characters = wrong_at_g2(&data);
+        tried.expect("n = 8, wrong at G2: delivered", reads800(&characters, Answer::Delivered(vec![8, 0, 7]), &data));
+        let characters = with_longitudinal_wrong(characters);
+        tried.expect("the longitudinal one wrong too: refusal 8", reads800(&characters, Answer::Refused(8, 0), &[]));
+    }
+    tried
+}
+
+pub fn readings6250() -> Tried {
     let mut tried = Tried::default();
     tried.expect("word 0 made 1,024: refusal 3", reads(&with_word_0(1024), Answer::Refused(3, 0), &[]));
     tried.expect("word 0 made 1,023: no refusal 3", reads(&with_word_0(1023), Answer::Delivered(vec![1, 1]), &[1]));

@@ -26,6 +26,27 @@ extern "C" {
         changes: *mut usize,
         place: *mut usize,
     ) -> u16;
+    fn rindthok_write800(bytes: *const u8, byte_count: usize, characters: *mut u16, character_space: usize, count: *mut usize, place: *mut usize) -> u16;
+    fn rindthok_read800_forward(
+        characters: *const u16,
+        character_count: usize,
+        output: *mut u8,
+        output_space: usize,
+        size: *mut usize,
+        track: *mut usize,
+        changes: *mut usize,
+        place: *mut usize,
+    ) -> u16;
+    fn rindthok_read800_backward(
+        characters: *const u16,
+        character_count: usize,
+        output: *mut u8,
+        output_space: usize,
+        size: *mut usize,
+        track: *mut usize,
+        changes: *mut usize,
+        place: *mut usize,
+    ) -> u16;
     fn rindthok_map_to_physical(map: u16, moved: *mut u16, place: *mut usize) -> u16;
     fn rindthok_map_to_algebraic(map: u16, moved: *mut u16, place: *mut usize) -> u16;
 }
@@ -87,6 +108,28 @@ pub fn read6250(direction: Direction, words: &[u16], maps: &[u16], output: &mut 
     let status = unsafe { call(from, words.len(), pointers, maps.len(), to, output.len(), &mut size, &mut changes, &mut place) };
     assert!(status == 0 || (size, changes) == (KEPT, KEPT), "a refusal stores no value");
     answer(status, place, || vec![size as u64, changes as u64])
+}
+
+/// A delivery tells the number of characters written.
+pub fn write800(bytes: &[u8], characters: &mut [u16]) -> Answer {
+    let (mut count, mut place) = (KEPT, usize::MAX);
+    let (from, to) = (bytes.as_ptr(), characters.as_mut_ptr());
+    let status = unsafe { rindthok_write800(from, bytes.len(), to, characters.len(), &mut count, &mut place) };
+    assert!(status == 0 || count == KEPT, "a refusal stores no value");
+    answer(status, place, || vec![count as u64])
+}
+
+/// A delivery tells the number of data bytes, the mended track or 9, and the number of changed characters.
+pub fn read800(direction: Direction, characters: &[u16], output: &mut [u8]) -> Answer {
+    let (mut size, mut track, mut changes, mut place) = (KEPT, KEPT, KEPT, usize::MAX);
+    let call = match direction {
+        Direction::Forward => rindthok_read800_forward,
+        Direction::Backward => rindthok_read800_backward,
+    };
+    let (from, to) = (characters.as_ptr(), output.as_mut_ptr());
+    let status = unsafe { call(from, characters.len(), to, output.len(), &mut size, &mut track, &mut changes, &mut place) };
+    assert!(status == 0 || (size, track, changes) == (KEPT, KEPT, KEPT), "a refusal stores no value");
+    answer(status, place, || vec![size as u64, track as u64, changes as u64])
 }
 
 /// What lies in a number before a call that may store a value there.

@@ -3,10 +3,13 @@
 
 mod bench;
 mod damage6250;
+mod damage800;
 mod head_order;
 mod library;
 mod reading6250;
+mod reading800;
 mod record6250;
+mod record800;
 mod vectors;
 
 use library::{Direction, Toward};
@@ -140,24 +143,53 @@ fn listing() -> Tried {
     tried
 }
 
-fn main() {
-    let suites: Vec<(&str, Tried)> = vec![
-        ("head order, outside cases", vector_file("head_order.txt", vectors::run)),
+/// A suite's name and what it tried.
+type Suite = (&'static str, Tried);
+
+fn suites_at_6250() -> Vec<Suite> {
+    vec![
         ("writing at 6250, outside cases", vector_file("write6250.txt", vectors::run)),
         ("reading at 6250, outside cases", vector_file("read6250.txt", vectors::run)),
-        ("the reader of these tests, outside cases", vector_file("read6250.txt", |line| vectors::read6250(line, reading6250::read))),
-        ("bench readings", bench::readings()),
+        ("the 6250 reader of these tests, outside cases", vector_file("read6250.txt", |line| vectors::read6250(line, reading6250::read))),
+        ("bench readings at 6250", bench::readings6250()),
         ("seeded writes at 6250", random_writes()),
         ("every number in a group at 6250, forward", damage6250::every_number(Direction::Forward)),
         ("every number in a group at 6250, backward", damage6250::every_number(Direction::Backward)),
         ("seeded readings at 6250, forward", damage6250::random_readings(Direction::Forward)),
         ("seeded readings at 6250, backward", damage6250::random_readings(Direction::Backward)),
         ("the listing program", listing()),
+    ]
+}
+
+fn suites_at_800() -> Vec<Suite> {
+    vec![
+        ("writing at 800, outside cases", vector_file("write800.txt", vectors::run)),
+        ("reading at 800, outside cases", vector_file("read800.txt", vectors::run)),
+        ("the 800 writer of these tests, outside cases", vector_file("write800.txt", |line| vectors::write800(line, record800::write))),
+        ("the 800 reader of these tests, outside cases", vector_file("read800.txt", |line| vectors::read800(line, reading800::read))),
+        ("bench readings at 800", bench::readings800()),
+        ("seeded writes at 800", damage800::random_writes()),
+        ("every number in a record at 800, forward", damage800::every_number(Direction::Forward)),
+        ("every number in a record at 800, backward", damage800::every_number(Direction::Backward)),
+        ("every choice of wrong characters at 800, forward", damage800::every_choice(Direction::Forward)),
+        ("every choice of wrong characters at 800, backward", damage800::every_choice(Direction::Backward)),
+        ("seeded readings at 800, forward", damage800::random_readings(Direction::Forward)),
+        ("seeded readings at 800, backward", damage800::random_readings(Direction::Backward)),
+    ]
+}
+
+fn suites_of_head_order() -> Vec<Suite> {
+    vec![
+        ("head order, outside cases", vector_file("head_order.txt", vectors::run)),
         ("every map to physical", every_map(Toward::Physical)),
         ("every map to algebraic", every_map(Toward::Algebraic)),
         ("seeded words to physical", random_words(Toward::Physical)),
         ("seeded words to algebraic", random_words(Toward::Algebraic)),
-    ];
+    ]
+}
+
+fn main() {
+    let suites: Vec<Suite> = [suites_at_6250(), suites_at_800(), suites_of_head_order()].into_iter().flatten().collect();
     let mut failed = 0;
     for (name, tried) in &suites {
         println!("{name}: {} cases, {} differ", tried.cases, tried.wrong.len());

@@ -56,26 +56,64 @@ fn write6250(fields: &[&str], space: usize) -> Result<(), String> {
     }
 }
 
+fn direction_of(name: &str) -> Result<Direction, String> {
+    match name {
+        "forward" => Ok(Direction::Forward),
+        "backward" => Ok(Direction::Backward),
+        other => Err(format!("no direction: {other}")),
+    }
+}
+
 /// The library's reader, or another that is to answer as it does.
 pub type Reader = fn(Direction, &[u16], &[u16], &mut [u8]) -> Answer;
+pub type Reader800 = fn(Direction, &[u16], &mut [u8]) -> Answer;
+
+/// The same for writers.
+pub type Writer800 = fn(&[u8], &mut [u16]) -> Answer;
 
 /// Runs one case of reading at 6250 with a reader and tells what differs.
 pub fn read6250(line: &str, reader: Reader) -> Result<(), String> {
     let fields: Vec<&str> = line.split('|').collect();
     let head: Vec<&str> = fields[0].split_whitespace().collect();
-    let direction = match head[1] {
-        "forward" => Direction::Forward,
-        "backward" => Direction::Backward,
-        other => return Err(format!("no direction: {other}")),
-    };
     let space: usize = head[2].parse().unwrap();
     let mut output = lent_bytes(space, &[]);
-    let got = reader(direction, &words_of(fields[1]), &words_of(fields[2]), &mut output);
+    let got = reader(direction_of(head[1])?, &words_of(fields[1]), &words_of(fields[2]), &mut output);
     match refused(fields[3]) {
         Some(want) => compare(got, want, &output, &lent_bytes(space, &[])),
         None => {
             let want = Answer::Delivered(numbers(fields[3].trim().strip_prefix("delivered").unwrap()));
             compare(got, want, &output, &lent_bytes(space, &bytes_of(fields[4])))
+        }
+    }
+}
+
+/// Runs one case of writing at 800 with a writer and tells what differs.
+pub fn write800(line: &str, writer: Writer800) -> Result<(), String> {
+    let fields: Vec<&str> = line.split('|').collect();
+    let space: usize = fields[0].split_whitespace().nth(1).unwrap().parse().unwrap();
+    let mut characters = lent(space, &[]);
+    let got = writer(&bytes_of(fields[1]), &mut characters);
+    match refused(fields[2]) {
+        Some(want) => compare(got, want, &characters, &lent(space, &[])),
+        None => {
+            let result = words_of(fields[3]);
+            compare(got, Answer::Delivered(vec![result.len() as u64]), &characters, &lent(space, &result))
+        }
+    }
+}
+
+/// Runs one case of reading at 800 with a reader and tells what differs.
+pub fn read800(line: &str, reader: Reader800) -> Result<(), String> {
+    let fields: Vec<&str> = line.split('|').collect();
+    let head: Vec<&str> = fields[0].split_whitespace().collect();
+    let space: usize = head[2].parse().unwrap();
+    let mut output = lent_bytes(space, &[]);
+    let got = reader(direction_of(head[1])?, &words_of(fields[1]), &mut output);
+    match refused(fields[2]) {
+        Some(want) => compare(got, want, &output, &lent_bytes(space, &[])),
+        None => {
+            let want = Answer::Delivered(numbers(fields[2].trim().strip_prefix("delivered").unwrap()));
+            compare(got, want, &output, &lent_bytes(space, &bytes_of(fields[3])))
         }
     }
 }
@@ -89,6 +127,12 @@ pub fn run(line: &str) -> Result<(), String> {
     }
     if head[0] == "read6250" {
         return read6250(line, library::read6250);
+    }
+    if head[0] == "write800" {
+        return write800(line, library::write800);
+    }
+    if head[0] == "read800" {
+        return read800(line, library::read800);
     }
     let toward = if head[0].ends_with("to-physical") { Toward::Physical } else { Toward::Algebraic };
     if head[0].starts_with("map-") {

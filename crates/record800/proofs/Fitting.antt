@@ -1,0 +1,241 @@
+-- What reading an 800 record delivers is what fits, if nothing else does (the notice, third term): a record that fits is the candidate
+-- of a track that holds, and the candidate of a track that holds fits.
+-- Assumes nothing.
+use mathlib.Core.Path.{_≡_, sym, ap, ap₂, _∙_}
+use mathlib.Core.Bool.{Bool, true, cond}
+use mathlib.Core.List.{List, [], _∷_}
+use Prim.Native.Nat.{ℕ, _+_, _-_, _*_, _%_, _^_, _<_}
+use native.Mathlib.Decide.{decLt}
+use native.Mathlib.Nat.{le-of-eq, mod-lt, zero-lt-suc}
+use native.Mathlib.Omega.{arith}
+use borrow.Author.Tests.{lt-ltb, le-ltb}
+use lib.Dec.{eqb}
+use lib.ListN.{length, getD, List·getD-eq-default}
+use lib.Pow.{pow-pos}
+use lib.Seq.{ext-getD}
+use Rattle.answer.specs.Answer.{Answer, delivered}
+use Rattle.indexed.specs.Differ.{differences}
+use Rattle.indexed.specs.List.{tabulate, total}
+use Rattle.indexed.proofs.Below.{first-below-at, first-below-none}
+use Rattle.indexed.proofs.Tabulate.{length-tabulate, getD-tabulate, tabulate-same}
+use Rattle.indexed.proofs.Total.{total-same, differences-total, differences-zero}
+use Rattle.register.specs.Bit.{bit}
+use Rattle.register.specs.Parity.{parity}
+use Rattle.register.specs.Shift.{shifts}
+use Rattle.register.specs.Sum.{xorSum}
+use Rattle.register.specs.Xor.{_⊕_}
+use Rattle.register.proofs.Sum.{sum-ext}
+use Rattle.cyclic.specs.Constants.{feedback, offset}
+use Rattle.record800.specs.Fits.{IsData, Passes, Fits, trackChanged, charactersChanged}
+use Rattle.record800.specs.Read.{picture, expectedParity, wrong, wrongCount, candidate, holds, judgedAnswer, judgedData, readData}
+use Rattle.record800.specs.Record.{checkSum, writtenRecord}
+use Rattle.record800.proofs.Apart.{other-bit, change-counted, change-counted-bit, one-apart}
+use Rattle.record800.proofs.Candidate.{wrong-lt, candidate-same, candidate-written, sums-hold, tracks-apart}
+use Rattle.record800.proofs.Recorded.{length-record, record-lt, record-check-sum, record-longitudinal-sum, record-parity, bytes-back}
+use Rattle.record800.proofs.Judged.{Judged, clean, one, several, none, judged, not-both, bytesOf, data-first, data-only}
+use Rattle.record800.proofs.Picture.{lengths-within, as-counted, picture-below}
+
+module _ (backward : Bool) (characters : List ℕ) (passes : Passes backward characters) where
+  -- the number of data characters, and the forward picture
+  abbrev n : ℕ
+  n = length characters - 2
+
+  abbrev l : List ℕ
+  l = picture backward characters
+
+  abbrev FitsHere : List ℕ → Type 0
+  FitsHere bytes = Fits backward characters bytes
+
+  -- ---- what fits is a candidate
+
+  module _ (bytes : List ℕ) (f : FitsHere bytes) where
+    abbrev right : ℕ → ℕ
+    right k = getD (writtenRecord bytes) k 0
+
+    as-many : length bytes ≡ n
+    as-many = omega (arith, f .as-long)
+
+    right-parity : (k : ℕ) → k < n + 2 → parity (right k) ≡ expectedParity n l k
+    right-parity k h =
+        record-parity bytes (f .are-data .are-bytes) l k (omega (arith, as-many)) ∙ ap (λ (m : ℕ). expectedParity m l k) as-many
+
+    -- each character has the parity that was expected, and differs in the track at most
+    right-candidate : (k : ℕ) → k < n + 2 → right k ≡ candidate n l (f .track) k
+    unfolding candidate wrong
+    right-candidate k h =
+        one-apart (getD l k 0) (right k) (f .track) (picture-below backward characters passes k) (record-lt bytes (f .are-data .are-bytes) k)
+        (f .is-track) (λ i b apart. f .one-track i b apart k (omega (arith, as-counted backward characters passes)))
+        ∙ ap (λ (e : ℕ). getD l k 0 ⊕ (parity (getD l k 0) ⊕ e) * 2 ^ f .track) (right-parity k h)
+
+    check-right : checkSum (n + 1) (candidate n l (f .track)) ≡ offset
+    unfolding checkSum
+    check-right =
+        sum-ext (n + 1) _ _ (λ k h. ap (shifts 9 feedback (n + 1 - 1 - k)) (sym (right-candidate k (omega arith))))
+        ∙ ap (λ (m : ℕ). checkSum (m + 1) right) (sym as-many)
+        ∙ record-check-sum bytes
+
+    longitudinal-right : xorSum (n + 2) (candidate n l (f .track)) ≡ 0
+    longitudinal-right =
+        sum-ext (n + 2) _ _ (λ k h. sym (right-candidate k h))
+        ∙ ap (λ (m : ℕ). xorSum (m + 2) right) (sym as-many)
+        ∙ record-longitudinal-sum bytes
+
+    pub fits-candidate : (writtenRecord bytes ≡ tabulate (n + 2) (candidate n l (f .track))) × (holds n l (f .track) ≡ true)
+    fits-candidate = (
+      ext-getD 0 _ _ (length-record bytes ∙ ap (λ (m : ℕ). m + 2) as-many ∙ sym (length-tabulate (n + 2) (candidate n l (f .track))))
+          (λ k h. let b : k < n + 2 = omega (arith, length-record bytes, as-many) in
+          right-candidate k b ∙ sym (getD-tabulate (n + 2) (candidate n l (f .track)) k 0 b)),
+      sums-hold n l (picture-below backward characters passes) (f .track) (f .is-track) check-right longitudinal-right,
+    )
+
+    pub fits-bytes : bytes ≡ bytesOf n l (f .track)
+    fits-bytes =
+        sym (bytes-back bytes (f .are-data .are-bytes))
+        ∙ ap (λ (m : ℕ). tabulate m (λ k. right k % 256)) as-many
+        ∙ tabulate-same n _ _ (λ k h. ap (λ (c : ℕ). c % 256) (right-candidate k (omega arith)))
+
+    -- ---- what it changes
+
+    -- in how many characters it differs in track t
+    abbrev changedIn : ℕ → ℕ
+    changedIn t = differences (length characters) (λ k. bit t (getD l k 0)) (λ k. bit t (right k))
+
+    pub nothing-changed : wrongCount n l ≡ 0 → (trackChanged backward characters bytes ≡ 9) × (charactersChanged backward characters bytes ≡ 0)
+    unfolding trackChanged charactersChanged
+    nothing-changed e =
+        let same : (k : ℕ) → k < length characters → getD l k 0 ≡ right k =
+        λ k h. let b : k < n + 2 = omega (arith, as-counted backward characters passes) in
+        sym (right-candidate k b ∙ candidate-same n l e (f .track) k b) in (
+          first-below-none 9 _
+              (λ t h. le-ltb 0 (changedIn t) (le-of-eq (differences-zero (length characters) _ _ (λ k b. ap (bit t) (same k b))))),
+          differences-zero (length characters) _ _ same,
+        )
+
+    pub changed : 0 < wrongCount n l
+        → (trackChanged backward characters bytes ≡ f .track) × (charactersChanged backward characters bytes ≡ wrongCount n l)
+    unfolding trackChanged charactersChanged wrongCount candidate
+    changed some = (
+      first-below-at 9 _ (f .track) (f .is-track) (λ t h. le-ltb 0 (changedIn t) (le-of-eq (elsewhere t h)))
+          (lt-ltb 0 (changedIn (f .track)) (rw in-track some)),
+      characters-wrong,
+    )
+      where
+        counted : (k : ℕ) → k < length characters → k < n + 2
+        counted k h = omega (arith, as-counted backward characters passes)
+
+        elsewhere : (t : ℕ) → t < f .track → changedIn t ≡ 0
+        elsewhere t h =
+            differences-zero (length characters) _ _ (λ k b. f .one-track t (omega (arith, f .is-track)) (λ q. omega arith) k b)
+
+        in-track : changedIn (f .track) ≡ wrongCount n l
+        in-track =
+            differences-total (length characters) _ _
+            ∙ total-same (length characters) _ _
+            (λ k h. ap (λ (c : ℕ). cond (eqb (bit (f .track) (getD l k 0)) (bit (f .track) c)) 0 1) (right-candidate k (counted k h))
+            ∙ change-counted-bit (getD l k 0) (wrong n l k) (f .track) (wrong-lt n l k) (f .is-track))
+            ∙ ap (λ (m : ℕ). total m (wrong n l)) (sym (as-counted backward characters passes))
+
+        characters-wrong : differences (length characters) (λ k. getD l k 0) right ≡ wrongCount n l
+        characters-wrong =
+            differences-total (length characters) _ _
+            ∙ total-same (length characters) _ _
+            (λ k h. ap (λ (c : ℕ). cond (eqb (getD l k 0) c) 0 1) (right-candidate k (counted k h))
+            ∙ change-counted (getD l k 0) (wrong n l k) (2 ^ f .track) (wrong-lt n l k) (pow-pos (f .track)))
+            ∙ ap (λ (m : ℕ). total m (wrong n l)) (sym (as-counted backward characters passes))
+
+  -- ---- a candidate fits, if its track holds
+
+  module _ (j : ℕ) (is-track : j < 9) (held : holds n l j ≡ true) where
+    candidate-record : (k : ℕ) → k < n + 2 → getD (writtenRecord (bytesOf n l j)) k 0 ≡ candidate n l j k
+    candidate-record k h =
+        ap (λ (r : List ℕ). getD r k 0) (candidate-written n l (picture-below backward characters passes) j is-track held)
+        ∙ getD-tabulate (n + 2) (candidate n l j) k 0 h
+
+    candidate-data : IsData (bytesOf n l j)
+    candidate-data = record {
+      some = omega (arith, length-tabulate n (λ k. candidate n l j k % 256), lengths-within backward characters passes .0);
+      within = omega (arith, length-tabulate n (λ k. candidate n l j k % 256), lengths-within backward characters passes .1);
+      are-bytes = λ k. by k (decLt k n);
+    }
+      where
+        by : (k : ℕ) → Dec (k < n) → getD (bytesOf n l j) k 0 < 256
+        by k (yes h) = rw (getD-tabulate n (λ k. candidate n l j k % 256) k 0 h) (mod-lt (candidate n l j k) (zero-lt-suc 255))
+        by k (no h) =
+            rw (List·getD-eq-default (bytesOf n l j) 0 {n = k} (omega (arith, length-tabulate n (λ k. candidate n l j k % 256)))) (zero-lt-suc 255)
+
+    pub candidate-fits : FitsHere (bytesOf n l j)
+    unfolding candidate
+    candidate-fits = record {
+      are-data = candidate-data;
+      as-long = ap (λ (m : ℕ). m + 2) (length-tabulate n (λ k. candidate n l j k % 256)) ∙ as-counted backward characters passes;
+      track = j;
+      is-track = is-track;
+      one-track = λ t h apart k b. sym (ap (bit t) (candidate-record k (omega (arith, as-counted backward characters passes)))
+          ∙ other-bit (getD l k 0) (wrong n l k) j (wrong-lt n l k) is-track t h apart);
+    }
+
+  -- two tracks that hold, if some parity is wrong, are of two records
+  pub bytes-apart : 0 < wrongCount n l → (i j : ℕ) → i < j → j < 9 → holds n l i ≡ true → holds n l j ≡ true
+      → bytesOf n l i ≡ bytesOf n l j → ⊥
+  bytes-apart some i j h b p q e =
+      tracks-apart n l some i j h
+      (λ k r. sym (candidate-record i (omega arith) p k r)
+      ∙ ap (λ (bytes : List ℕ). getD (writtenRecord bytes) k 0) e
+      ∙ candidate-record j b q k r)
+
+  -- ---- the only one that fits is delivered
+
+  pub fits-delivered : (bytes : List ℕ) → FitsHere bytes → ((others : List ℕ) → FitsHere others → others ≡ bytes)
+      → (judgedAnswer n l ≡ delivered (length bytes ∷ trackChanged backward characters bytes ∷ charactersChanged backward characters bytes ∷ []))
+      × (readData backward characters ≡ bytes)
+  unfolding readData
+  fits-delivered bytes f only = by (judged n l)
+    where
+      answer : ℕ → ℕ → ℕ → Answer
+      answer m t c = delivered (m ∷ t ∷ c ∷ [])
+
+      told : (m t c : ℕ) → m ≡ length bytes → t ≡ trackChanged backward characters bytes → c ≡ charactersChanged backward characters bytes
+          → answer m t c ≡ answer (length bytes) (trackChanged backward characters bytes) (charactersChanged backward characters bytes)
+      told m t c p q r = ap₂ (λ (m t : ℕ). answer m t c) p q ∙ ap (answer (length bytes) (trackChanged backward characters bytes)) r
+
+      by : Judged n l (judgedAnswer n l)
+          → (judgedAnswer n l ≡ answer (length bytes) (trackChanged backward characters bytes) (charactersChanged backward characters bytes))
+          × (judgedData n l ≡ bytes)
+      by (clean e h a) = (
+        a ∙ told n 9 0 (sym (as-many bytes f)) (sym (nothing-changed bytes f e .0)) (sym (nothing-changed bytes f e .1)),
+        data-first n l h ∙ only (bytesOf n l 0) (candidate-fits 0 (omega arith) h),
+      )
+      by (one some j b h alone a) = (
+        a
+            ∙ told n j (wrongCount n l) (sym (as-many bytes f))
+            (sym (changed bytes f some .0 ∙ alone (f .track) (f .is-track) (fits-candidate bytes f .1)))
+            (sym (changed bytes f some .1)),
+        data-only n l j b h alone ∙ only (bytesOf n l j) (candidate-fits j b h),
+      )
+      by (several some i j h b p q a) =
+          absurd (bytes-apart some i j h b p q
+          (only (bytesOf n l i) (candidate-fits i (omega arith) p) ∙ sym (only (bytesOf n l j) (candidate-fits j b q))))
+      by (none nothing a) = absurd (nothing (f .track) (f .is-track) (fits-candidate bytes f .1))
+
+  -- ---- what is delivered fits, and nothing else does
+
+  pub delivered-fits : (values : List ℕ) → judgedAnswer n l ≡ delivered values
+      → (bytes : List ℕ) × FitsHere bytes × ((others : List ℕ) → FitsHere others → others ≡ bytes)
+  delivered-fits values e = by (judged n l)
+    where
+      by : Judged n l (judgedAnswer n l) → (bytes : List ℕ) × FitsHere bytes × ((others : List ℕ) → FitsHere others → others ≡ bytes)
+      by (clean w h a) = (
+        bytesOf n l 0,
+        candidate-fits 0 (omega arith) h,
+        λ others f. fits-bytes others f
+            ∙ tabulate-same n _ _
+            (λ k b. ap (λ (c : ℕ). c % 256)
+            (candidate-same n l w (f .track) k (omega arith) ∙ sym (candidate-same n l w 0 k (omega arith)))),
+      )
+      by (one some j b h alone a) = (
+        bytesOf n l j,
+        candidate-fits j b h,
+        λ others f. fits-bytes others f ∙ ap (bytesOf n l) (alone (f .track) (f .is-track) (fits-candidate others f .1)),
+      )
+      by (several some i j h b p q a) = absurd (not-both values 8 0 (sym e ∙ a))
+      by (none nothing a) = absurd (not-both values 7 0 (sym e ∙ a))

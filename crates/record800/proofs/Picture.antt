@@ -1,0 +1,87 @@
+-- The forward picture: of a forward reading it is the reading, and a reading turned twice is as it was; and what is known of a reading
+-- that passes.
+-- Assumes nothing.
+use mathlib.Core.Path.{_≡_, refl, ap, _∙_}
+use mathlib.Core.Bool.{Bool, true, false}
+use mathlib.Core.List.{List}
+use Prim.Native.Nat.{ℕ, _+_, _-_, _<_, _≤_}
+use native.Mathlib.Decide.{decLt}
+use native.Mathlib.Omega.{arith}
+use borrow.Author.Tests.{leb-true, ltb-false}
+use lib.Dec.{leb, ltb}
+use lib.ListN.{length, getD, List·getD-eq-default}
+use lib.Seq.{ext-getD}
+use Rattle.answer.specs.Answer.{firstAbove}
+use Rattle.indexed.specs.List.{turnedPlace}
+use Rattle.indexed.proofs.First.{first-before}
+use Rattle.indexed.proofs.Tabulate.{length-tabulate, getD-tabulate}
+use Rattle.record800.specs.Fits.{Passes}
+use Rattle.record800.specs.Read.{picture, lengthSuits, firstStray}
+use Rattle.record800.specs.Record.{mostData}
+use Rattle.record800.proofs.Candidate.{both-true}
+
+turned-lt : (backward : Bool) (n k : ℕ) → k < n → turnedPlace backward n k < n
+unfolding turnedPlace
+turned-lt true n k h = omega arith
+turned-lt false n k h = h
+
+turned-twice : (backward : Bool) (n k : ℕ) → k < n → turnedPlace backward n (turnedPlace backward n k) ≡ k
+unfolding turnedPlace
+turned-twice true n k h = omega arith
+turned-twice false n k h = refl
+
+module _ (backward : Bool) (characters : List ℕ) where
+  pub length-picture : length (picture backward characters) ≡ length characters
+  unfolding picture
+  length-picture = length-tabulate (length characters) _
+
+  pub getD-picture : (k : ℕ) → k < length characters
+      → getD (picture backward characters) k 0 ≡ getD characters (turnedPlace backward (length characters) k) 0
+  unfolding picture
+  getD-picture k h = getD-tabulate (length characters) _ k 0 h
+
+pub picture-forward : (characters : List ℕ) → picture false characters ≡ characters
+unfolding turnedPlace
+picture-forward characters =
+    ext-getD 0 _ _ (length-picture false characters) (λ k h. getD-picture false characters k (omega (arith, length-picture false characters)))
+
+pub picture-twice : (backward : Bool) (characters : List ℕ) → picture backward (picture backward characters) ≡ characters
+picture-twice backward characters =
+    let once = length-picture backward characters in
+    let twice = length-picture backward (picture backward characters) in
+    ext-getD 0 _ _ (twice ∙ once)
+    (λ k h. getD-picture backward (picture backward characters) k (omega arith)
+    ∙ ap (λ (n : ℕ). getD (picture backward characters) (turnedPlace backward n k) 0) once
+    ∙ getD-picture backward characters (turnedPlace backward (length characters) k) (turned-lt backward (length characters) k (omega arith))
+    ∙ ap (λ (j : ℕ). getD characters j 0) (turned-twice backward (length characters) k (omega arith)))
+
+-- ---- a reading that passes
+
+module _ (backward : Bool) (characters : List ℕ) (passes : Passes backward characters) where
+  pub lengths-within : (3 ≤ length characters) × (length characters ≤ 2050)
+  unfolding lengthSuits
+  lengths-within =
+      let b = both-true (leb 3 (length characters)) (leb (length characters) (mostData + 2)) (passes .lengths) in
+      (leb-true _ _ (b .0), leb-true _ _ (b .1))
+
+  -- the data characters, the check character and the longitudinal one
+  pub as-counted : length characters - 2 + 2 ≡ length characters
+  as-counted = omega (arith, lengths-within .0)
+
+  -- no character has a bit above the ninth
+  pub picture-below : (k : ℕ) → getD (picture backward characters) k 0 < 512
+  unfolding firstStray firstAbove
+  picture-below k = by (decLt k (length characters))
+    where
+      by : Dec (k < length characters) → getD (picture backward characters) k 0 < 512
+      by (yes h) =
+          omega (
+            arith,
+            ltb-false 511 (getD (picture backward characters) k 0)
+                (first-before (λ v. ltb 511 v) (picture backward characters) k (omega (arith, passes .no-stray))),
+          )
+      by (no h) =
+          omega (
+            arith,
+            List·getD-eq-default (picture backward characters) 0 {n = k} (omega (arith, length-picture backward characters)),
+          )

@@ -1,0 +1,5 @@
+pub mod Record
+pub mod Written
+pub mod Read
+pub mod Fits
+pub mod Told

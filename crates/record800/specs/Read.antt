@@ -1,0 +1,88 @@
+-- What reading an 800 record answers (document 01, "Where a call is turned down", from top to bottom), and the data.
+-- Assumes nothing.
+use Prim.Native.Nat.{ℕ, _+_, _-_, _*_, _%_, _^_}
+use mathlib.Core.Bool.{Bool, cond, _&&_}
+use mathlib.Core.List.{List, [], _∷_}
+use lib.Dec.{eqb, leb, ltb}
+use lib.ListN.{length, getD}
+use Rattle.indexed.specs.List.{tabulate, below, firstBelow, keep, total, turnedPlace}
+use Rattle.register.specs.Parity.{parity}
+use Rattle.register.specs.Shift.{shifts}
+use Rattle.register.specs.Sum.{xorSum}
+use Rattle.register.specs.Xor.{_⊕_}
+use Rattle.answer.specs.Answer.{Answer, delivered, refusedFor, firstAbove}
+use Rattle.answer.specs.declared.Reason.the-variants.{Length, Space, StrayBits, NoRecord, SeveralRecords}
+use Rattle.cyclic.specs.Constants.{feedback, offset}
+use Rattle.record800.specs.Record.{mostData, checkSum}
+
+-- the forward picture: backward, the characters come last first, bits unchanged
+unfoldable pub picture : Bool → List ℕ → List ℕ
+picture backward characters = tabulate (length characters) (λ k. getD characters (turnedPlace backward (length characters) k) 0)
+
+-- of n data characters, the check character and the longitudinal one
+module _ (n : ℕ) (characters : List ℕ) where
+  -- The parity that a written character has: odd, but for the check character, at place n, which has even parity if n is odd.
+  unfoldable pub expectedParity : ℕ → ℕ
+  expectedParity k = cond (eqb k n) ((n + 1) % 2) 1
+
+  -- 1 if the character's parity is wrong, else 0
+  unfoldable pub wrong : ℕ → ℕ
+  wrong k = parity (getD characters k 0) ⊕ expectedParity k
+
+  -- what the check register holds, all but the longitudinal character entered; and E, the sum of X^i over the wrong ones
+  unfoldable pub checkRead : ℕ
+  checkRead = checkSum (n + 1) (λ k. getD characters k 0)
+
+  unfoldable pub errorPattern : ℕ
+  errorPattern = checkSum (n + 1) wrong
+
+  -- the exclusive-or of all characters, and the parity of the number of wrong ones
+  unfoldable pub longitudinalRead : ℕ
+  longitudinalRead = xorSum (n + 2) (λ k. getD characters k 0)
+
+  unfoldable pub wrongParity : ℕ
+  wrongParity = xorSum (n + 2) wrong
+
+  unfoldable pub wrongCount : ℕ
+  wrongCount = total (n + 2) wrong
+
+  -- A written record that differs in track j only has bit j changed in the wrong characters, and no other: the candidate.
+  unfoldable pub candidate : ℕ → ℕ → ℕ
+  candidate j k = getD characters k 0 ⊕ wrong k * 2 ^ j
+
+  -- it is a written record if its check character and its longitudinal character hold
+  unfoldable pub holds : ℕ → Bool
+  holds j = eqb (checkRead ⊕ shifts 9 feedback j errorPattern) offset && eqb longitudinalRead (wrongParity * 2 ^ j)
+
+  -- by the tracks of which the candidate is a written record
+  unfoldable pub oneOf : List ℕ → Answer
+  oneOf [] = refusedFor NoRecord 0
+  oneOf (j ∷ []) = delivered (n ∷ j ∷ wrongCount ∷ [])
+  oneOf (i ∷ j ∷ more) = refusedFor SeveralRecords 0
+
+  -- with no wrong parity the nine candidates are the reading itself; otherwise they are nine different ones
+  unfoldable pub judgedAnswer : Answer
+  judgedAnswer =
+      cond (eqb wrongCount 0) (cond (holds 0) (delivered (n ∷ 9 ∷ 0 ∷ [])) (refusedFor NoRecord 0)) (oneOf (keep holds (below 9)))
+
+  unfoldable pub judgedData : List ℕ
+  judgedData = tabulate n (λ k. candidate (firstBelow 9 holds) k % 256)
+
+-- 3 to 2,050 characters
+unfoldable pub lengthSuits : ℕ → Bool
+lengthSuits count = leb 3 count && leb count (mostData + 2)
+
+unfoldable pub firstStray : Bool → List ℕ → ℕ
+firstStray backward characters = firstAbove 511 (picture backward characters)
+
+unfoldable pub readData : Bool → List ℕ → List ℕ
+readData backward characters = judgedData (length characters - 2) (picture backward characters)
+
+unfoldable pub readAnswer : Bool → List ℕ → ℕ → Answer
+readAnswer backward characters space =
+    cond (lengthSuits (length characters))
+    (cond (leb (length characters - 2) space)
+    (cond (ltb (firstStray backward characters) (length characters)) (refusedFor StrayBits (firstStray backward characters))
+    (judgedAnswer (length characters - 2) (picture backward characters)))
+    (refusedFor Space 0))
+    (refusedFor Length 0)

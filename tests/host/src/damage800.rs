@@ -1,0 +1,293 @@
+//! Seeded records and readings at 800, damaged in the ways that document 01 speaks of and in combinations of them.
+//! The library and the implementation of these tests answer each, and their outputs are compared whole.
+
+use crate::library::{self, Answer, Direction};
+use crate::reading800::{self, turned};
+use crate::record800::{self, written, G2};
+use crate::vectors::{LENT, LENT_BYTE};
+use crate::{Seeded, Tried};
+
+const CASES: usize = 250_000;
+
+/// Elements behind the lent output, which no call may reach.
+const BEHIND: usize = 16;
+
+/// The answers that document 01 has for reading at 800.
+const READING: [usize; 6] = [0, 1, 2, 3, 7, 8];
+
+fn index(seeded: &mut Seeded, bound: usize) -> usize {
+    seeded.below(bound as u64) as usize
+}
+
+/// Once in so many.
+fn once_in(seeded: &mut Seeded, bound: u64) -> bool {
+    seeded.below(bound) == 0
+}
+
+/// Short data mostly, and the limit: 2,048 bytes.
+fn random_data(seeded: &mut Seeded, case: usize) -> Vec<u8> {
+    let length = match case % 64 {
+        0 => 2048 - [0, index(seeded, 20)][index(seeded, 2)],
+        1..=3 => 1 + index(seeded, 700),
+        _ => 1 + index(seeded, 40),
+    };
+    let mask = [0xFF, 0xFF, 0xFF, 0x81, 0x01, 0][index(seeded, 6)];
+    (0..length).map(|_| seeded.next() as u8 & mask).collect()
+}
+
+/// Places of a reading in which a track may be wrong: one, some of the last two, a few, or about half of all.
+/// A place may come twice, and the track is then right in it.
+fn some_places(seeded: &mut Seeded, length: usize) -> Vec<usize> {
+    match seeded.below(4) {
+        0 => vec![index(seeded, length)],
+        1 => vec![length - 1 - index(seeded, 2), length - 1 - index(seeded, 3)],
+        2 => (0..1 + index(seeded, 5)).map(|_| index(seeded, length)).collect(),
+        _ => (0..length).filter(|_| seeded.below(2) == 1).collect(),
+    }
+}
+
+fn flip(characters: &mut [u16], places: &[usize], bits: u16) {
+    for &place in places {
+        characters[place] ^= bits;
+    }
+}
+
+fn one_track(seeded: &mut Seeded, characters: &mut [u16]) {
+    let places = some_places(seeded, characters.len());
+    flip(characters, &places, 1 << seeded.below(9));
+}
+
+/// Two tracks wrong, in the same characters, which keep their parity, or each in its own.
+fn two_tracks(seeded: &mut Seeded, characters: &mut [u16]) {
+    let first = index(seeded, 9);
+    let second = (first + 1 + index(seeded, 8)) % 9;
+    let places = some_places(seeded, characters.len());
+    flip(characters, &places, 1 << first);
+    let others = if once_in(seeded, 2) { places } else { some_places(seeded, characters.len()) };
+    flip(characters, &others, 1 << second);
+}
+
+fn single_bits(seeded: &mut Seeded, characters: &mut [u16]) {
+    for _ in 0..1 + index(seeded, 3) {
+        let place = index(seeded, characters.len());
+        characters[place] ^= 1 << seeded.below(9);
+    }
+}
+
+/// Some characters, or all, made anything.
+fn noise(seeded: &mut Seeded, characters: &mut [u16]) {
+    for place in some_places(seeded, characters.len()) {
+        characters[place] = seeded.below(512) as u16;
+    }
+}
+
+/// Makes a track wrong in the characters whose indices are the powers of a multiple of G2: G2 times some powers.
+/// The number of wrong characters, the longitudinal one among them, is even mostly; then each track fits.
+fn multiple_of_g2(seeded: &mut Seeded, characters: &mut [u16]) {
+    let n = characters.len() - 2;
+    if n < 8 {
+        return one_track(seeded, characters);
+    }
+    let bit = 1 << seeded.below(9);
+    let terms = [1, 1, 2, 3, 1 + index(seeded, n)][index(seeded, 5)];
+    for _ in 0..terms {
+        let shift = index(seeded, n - 7);
+        flip(characters, &G2.map(|power| n - power - shift), bit);
+    }
+    let even = !once_in(seeded, 4);
+    if even == (terms % 2 == 1) {
+        flip(characters, &[n + 1], bit);
+    }
+}
+
+/// Makes a track wrong in two characters at a distance around 17, the exponent of G, or around a multiple of it.
+fn far_apart(seeded: &mut Seeded, characters: &mut [u16]) {
+    let n = characters.len() - 2;
+    if n < 18 {
+        return one_track(seeded, characters);
+    }
+    let distance = 17 * (1 + index(seeded, (n - 1) / 17)) + [0, 0, 0, 1][index(seeded, 4)];
+    let first = index(seeded, n + 1 - distance.min(n));
+    flip(characters, &[first, first + distance.min(n)], 1 << seeded.below(9));
+}
+
+fn damage(seeded: &mut Seeded, characters: &mut [u16]) {
+    match seeded.below(16) {
+        0..=4 => one_track(seeded, characters),
+        5 | 6 => two_tracks(seeded, characters),
+        7 | 8 => single_bits(seeded, characters),
+        9 => noise(seeded, characters),
+        10..=13 => multiple_of_g2(seeded, characters),
+        _ => far_apart(seeded, characters),
+    }
+}
+
+/// A character beyond its width: by one of the upper bits, by all, or anything.
+fn stray(seeded: &mut Seeded, characters: &mut [u16]) {
+    let place = match seeded.below(4) {
+        0 => characters.len() - 1 - index(seeded, 2),
+        1 => 0,
+        _ => index(seeded, characters.len()),
+    };
+    match seeded.below(3) {
+        0 => characters[place] = 512,
+        1 => characters[place] |= 512 << seeded.below(7),
+        _ => characters[place] = 512 + seeded.below(65536 - 512) as u16,
+    }
+}
+
+/// Lengths beyond the limits, and lengths within them that are not the record's.
+fn wrong_length(seeded: &mut Seeded, characters: &mut Vec<u16>) {
+    match seeded.below(6) {
+        0 => characters.truncate(index(seeded, 3)),
+        1 => characters.resize(2051, 256),
+        2 => *characters = [written(&vec![0; 2048]), vec![256; 1 + index(seeded, 5)]].concat(),
+        3 => *characters = characters.split_off(1),
+        4 => characters.truncate(characters.len() - 1),
+        _ => characters.push(256),
+    }
+}
+
+/// A reading of some record in forward order, undamaged or damaged in one way or in several.
+fn random_reading(seeded: &mut Seeded, case: usize) -> Vec<u16> {
+    let mut characters = written(&random_data(seeded, case));
+    for _ in 0..[0, 1, 1, 1, 1, 2][index(seeded, 6)] {
+        damage(seeded, &mut characters);
+    }
+    if once_in(seeded, 16) {
+        stray(seeded, &mut characters);
+        if once_in(seeded, 2) {
+            stray(seeded, &mut characters);
+        }
+    }
+    if once_in(seeded, 16) {
+        wrong_length(seeded, &mut characters);
+    }
+    characters
+}
+
+/// The least space, somewhat more, or less.
+fn random_space(seeded: &mut Seeded, least: usize) -> usize {
+    match seeded.below(24) {
+        0 => least.saturating_sub(1),
+        1 => index(seeded, least + 1),
+        2..=12 => least,
+        _ => least + index(seeded, 12),
+    }
+}
+
+/// How a case is told; a long one by its number and length only.
+fn told(case: usize, characters: &[u16]) -> String {
+    match characters.len() {
+        0..=50 => format!("case {case}: characters {characters:?}"),
+        length => format!("case {case}: {length} characters"),
+    }
+}
+
+/// One reading answered by the library and by the reader of these tests; what the latter answered.
+fn compare(tried: &mut Tried, direction: Direction, reading: Vec<u16>, space: usize) -> Answer {
+    let characters = match direction {
+        Direction::Forward => reading,
+        Direction::Backward => turned(&reading),
+    };
+    let mut output = vec![LENT_BYTE; space + BEHIND];
+    let mut after = vec![LENT_BYTE; space + BEHIND];
+    let got = library::read800(direction, &characters, &mut output[..space]);
+    let want = reading800::read(direction, &characters, &mut after[..space]);
+    if got != want || output != after {
+        let differs = if output == after { "" } else { ", outputs differ" };
+        tried.wrong.push(format!("{direction:?}, {}, space {space}: {got:?} for {want:?}{differs}", told(tried.cases, &characters)));
+    }
+    tried.cases += 1;
+    want
+}
+
+/// Every number as every character of a record of one byte.
+pub fn every_number(direction: Direction) -> Tried {
+    let mut tried = Tried::default();
+    for number in 0..=u16::MAX {
+        for place in 0..3 {
+            let mut characters = written(&[212]);
+            characters[place] = number;
+            compare(&mut tried, direction, characters, 1);
+        }
+    }
+    tried
+}
+
+/// Every track wrong in every choice of the characters of a record, up to n = 10.
+pub fn every_choice(direction: Direction) -> Tried {
+    let mut seeded = Seeded(800);
+    let mut tried = Tried::default();
+    let mut answers = [0; 9];
+    for n in 1..=10 {
+        let record = written(&(0..n).map(|_| seeded.next() as u8).collect::<Vec<_>>());
+        for (choice, track) in (0..1 << (n + 2)).flat_map(|choice| (0..9).map(move |track| (choice, track))) {
+            let places: Vec<usize> = (0..n + 2).filter(|place| choice >> place & 1 == 1).collect();
+            let mut characters = record.clone();
+            flip(&mut characters, &places, 1 << track);
+            answers[number_of(&compare(&mut tried, direction, characters, n))] += 1;
+        }
+    }
+    distribution(&mut tried, &answers, &[0, 8]);
+    tried
+}
+
+fn number_of(answer: &Answer) -> usize {
+    match answer {
+        Answer::Delivered(_) => 0,
+        Answer::Refused(number, _) => usize::from(*number),
+    }
+}
+
+/// Tells how often each number was the answer, and finds fault if one of those that must occur never did.
+fn distribution(tried: &mut Tried, answers: &[usize; 9], needed: &[usize]) {
+    tried.remarks.push(format!("answers 0 (delivered) to 8: {answers:?}"));
+    for number in needed.iter().filter(|&&number| answers[number] == 0) {
+        tried.wrong.push(format!("no case is answered by {number}"));
+    }
+}
+
+pub fn random_readings(direction: Direction) -> Tried {
+    let mut seeded = Seeded(800 + matches!(direction, Direction::Backward) as u64);
+    let mut tried = Tried::default();
+    let (mut answers, mut tracks, mut longest) = ([0; 9], [0; 10], [0; 9]);
+    for case in 0..CASES {
+        let reading = random_reading(&mut seeded, case);
+        let length = reading.len();
+        let space = random_space(&mut seeded, length.saturating_sub(2));
+        let answer = compare(&mut tried, direction, reading, space);
+        answers[number_of(&answer)] += 1;
+        longest[number_of(&answer)] += usize::from(length == 2050);
+        if let Answer::Delivered(values) = answer {
+            tracks[values[1] as usize] += 1;
+        }
+    }
+    distribution(&mut tried, &answers, &READING);
+    tried.remarks.push(format!("of these with 2,048 data characters: {longest:?}; deliveries by mended track, 9 for none: {tracks:?}"));
+    tried
+}
+
+pub fn random_writes() -> Tried {
+    let mut seeded = Seeded(800);
+    let mut tried = Tried::default();
+    let mut answers = [0; 9];
+    for case in 0..CASES {
+        tried.cases += 1;
+        let mut bytes = random_data(&mut seeded, case);
+        if once_in(&mut seeded, 32) {
+            bytes.resize([0, 2049, 2050, 3000][index(&mut seeded, 4)], 0);
+        }
+        let space = random_space(&mut seeded, bytes.len() + 2);
+        let mut characters = vec![LENT; space + BEHIND];
+        let mut after = vec![LENT; space + BEHIND];
+        let got = library::write800(&bytes, &mut characters[..space]);
+        let want = record800::write(&bytes, &mut after[..space]);
+        if got != want || characters != after {
+            tried.wrong.push(format!("write {} bytes into {space} characters: {got:?} for {want:?}", bytes.len()));
+        }
+        answers[number_of(&want)] += 1;
+    }
+    distribution(&mut tried, &answers, &[0, 1, 2]);
+    tried
+}
