@@ -264,7 +264,7 @@ pub fn random_readings(direction: Direction) -> Tried {
         }
     }
     distribution(&mut tried, &answers, &READING);
-    tried.remarks.push(format!("of these with 2,048 data characters: {longest:?}; deliveries by mended track, 9 for none: {tracks:?}"));
+    tried.remarks.push(format!("of these with 2,048 data characters: {longest:?}; deliveries by corrected track, 9 for none: {tracks:?}"));
     tried
 }
 

@@ -119,7 +119,7 @@ pub fn write800(bytes: &[u8], characters: &mut [u16]) -> Answer {
     answer(status, place, || vec![count as u64])
 }
 
-/// A delivery tells the number of data bytes, the mended track or 9, and the number of changed characters.
+/// A delivery tells the number of data bytes, the corrected track or 9, and the number of changed characters.
 pub fn read800(direction: Direction, characters: &[u16], output: &mut [u8]) -> Answer {
     let (mut size, mut track, mut changes, mut place) = (KEPT, KEPT, KEPT, usize::MAX);
     let call = match direction {
