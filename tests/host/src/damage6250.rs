@@ -18,24 +18,15 @@ struct Reading {
     maps: Vec<u16>,
 }
 
-fn index(seeded: &mut Seeded, bound: usize) -> usize {
-    seeded.below(bound as u64) as usize
-}
-
-/// Once in so many.
-fn once_in(seeded: &mut Seeded, bound: u64) -> bool {
-    seeded.below(bound) == 0
-}
-
 /// Short data mostly, and the limits: 4,101 bytes are 586 groups.
 fn random_data(seeded: &mut Seeded, case: usize) -> Vec<u8> {
     let length = match case % 64 {
-        0 => 4101 - index(seeded, 14),
-        1..=3 => index(seeded, 700),
-        _ => index(seeded, 30),
+        0 => 4101 - seeded.index(14),
+        1..=3 => seeded.index(700),
+        _ => seeded.index(30),
     };
     // zero bytes before the padding show whether it is told from the data
-    let mask = [0xFF, 0xFF, 0xFF, 0x81, 0x01, 0][index(seeded, 6)];
+    let mask = [0xFF, 0xFF, 0xFF, 0x81, 0x01, 0][seeded.index(6)];
     (0..length).map(|_| seeded.next() as u8 & mask).collect()
 }
 
@@ -46,10 +37,10 @@ fn break_padding(seeded: &mut Seeded, body: &mut [u8]) {
         0 => body[last] = 7 + seeded.below(249) as u8,
         1 => body[last] = seeded.below(9) as u8,
         _ => {
-            let padding = 1 + index(seeded, 6);
+            let padding = 1 + seeded.index(6);
             body[last - padding..last].fill(0);
             body[last] = padding as u8;
-            body[last - 1 - index(seeded, padding)] = 1 + seeded.below(255) as u8;
+            body[last - 1 - seeded.index(padding)] = 1 + seeded.below(255) as u8;
         }
     }
 }
@@ -67,7 +58,7 @@ fn illegal(seeded: &mut Seeded) -> u16 {
 fn shuffled(seeded: &mut Seeded) -> [usize; 9] {
     let mut tracks = [0, 1, 2, 3, 4, 5, 6, 7, 8];
     for k in (1..9).rev() {
-        tracks.swap(k, index(seeded, k + 1));
+        tracks.swap(k, seeded.index(k + 1));
     }
     tracks
 }
@@ -109,8 +100,8 @@ fn damage_group(seeded: &mut Seeded, words: &mut [u16], map: &mut u16) {
         0..=5 => 0,
         6..=9 => map_of(&tracks[..damaged]),
         10..=14 => {
-            let from = index(seeded, damaged.min(3) + 1);
-            map_of(&tracks[from..from + [0, 1, 1, 2, 2, 3][index(seeded, 6)]])
+            let from = seeded.index(damaged.min(3) + 1);
+            map_of(&tracks[from..from + [0, 1, 1, 2, 2, 3][seeded.index(6)]])
         }
         _ => seeded.below(512) as u16,
     };
@@ -119,9 +110,9 @@ fn damage_group(seeded: &mut Seeded, words: &mut [u16], map: &mut u16) {
 /// Damages the same tracks in every group, as a weak head does, and points at them, at others or at none.
 fn damage_record(seeded: &mut Seeded, reading: &mut Reading) {
     let tracks = shuffled(seeded);
-    let damaged = 1 + index(seeded, 2);
-    let pointed = [0, map_of(&tracks[..damaged]), map_of(&tracks[1..3])][index(seeded, 3)];
-    let exchanged = once_in(seeded, 4);
+    let damaged = 1 + seeded.index(2);
+    let pointed = [0, map_of(&tracks[..damaged]), map_of(&tracks[1..3])][seeded.index(3)];
+    let exchanged = seeded.once_in(4);
     for (group, map) in reading.words.chunks_mut(9).zip(&mut reading.maps) {
         if exchanged {
             group.swap(tracks[0], tracks[1]);
@@ -134,20 +125,20 @@ fn damage_record(seeded: &mut Seeded, reading: &mut Reading) {
 
 /// A word or a map beyond its width, by one or by anything.
 fn stray(seeded: &mut Seeded, reading: &mut Reading) {
-    let place = index(seeded, reading.maps.len());
+    let place = seeded.index(reading.maps.len());
     let (numbers, place, limit) = match seeded.below(2) {
-        0 => (&mut reading.words, 9 * place + index(seeded, 9), 1024),
+        0 => (&mut reading.words, 9 * place + seeded.index(9), 1024),
         _ => (&mut reading.maps, place, 512),
     };
-    numbers[place] = if once_in(seeded, 3) { limit } else { limit + seeded.below(65536 - u64::from(limit)) as u16 };
+    numbers[place] = if seeded.once_in(3) { limit } else { limit + seeded.below(65536 - u64::from(limit)) as u16 };
 }
 
 /// Lengths that do not suit, and a whole number of groups less, which does.
 fn wrong_lengths(seeded: &mut Seeded, reading: &mut Reading) {
     let (words, maps) = (reading.words.len(), reading.maps.len());
     match seeded.below(10) {
-        0 => reading.words.truncate(words - 1 - index(seeded, 9)),
-        1 => reading.words.resize(words + 1 + index(seeded, 9), word(0)),
+        0 => reading.words.truncate(words - 1 - seeded.index(9)),
+        1 => reading.words.resize(words + 1 + seeded.index(9), word(0)),
         2 => reading.maps.truncate(maps - 1),
         3 => reading.maps.push(0),
         4 => reading.maps.clear(),
@@ -156,7 +147,7 @@ fn wrong_lengths(seeded: &mut Seeded, reading: &mut Reading) {
         7 => reading.maps.resize(words, 0),
         8 => *reading = Reading { words: words_of_body(&[0; 7 * 587]), maps: vec![0; 587] },
         _ => {
-            let left = index(seeded, maps);
+            let left = seeded.index(maps);
             reading.words.truncate(9 * left);
             reading.maps.truncate(left);
         }
@@ -166,39 +157,28 @@ fn wrong_lengths(seeded: &mut Seeded, reading: &mut Reading) {
 /// A reading of some record, undamaged or damaged in one way or in several.
 fn random_reading(seeded: &mut Seeded, case: usize) -> Reading {
     let mut body = body(&random_data(seeded, case));
-    if once_in(seeded, 10) {
+    if seeded.once_in(10) {
         break_padding(seeded, &mut body);
     }
     let groups = body.len() / 7;
     let mut reading = Reading { words: words_of_body(&body), maps: vec![0; groups] };
-    for _ in 0..[0, 1, 1, 1, 2, 3][index(seeded, 6)] {
-        let place = index(seeded, groups);
+    for _ in 0..[0, 1, 1, 1, 2, 3][seeded.index(6)] {
+        let place = seeded.index(groups);
         damage_group(seeded, &mut reading.words[9 * place..9 * place + 9], &mut reading.maps[place]);
     }
-    if once_in(seeded, 16) {
+    if seeded.once_in(16) {
         damage_record(seeded, &mut reading);
     }
-    if once_in(seeded, 16) {
+    if seeded.once_in(16) {
         stray(seeded, &mut reading);
-        if once_in(seeded, 2) {
+        if seeded.once_in(2) {
             stray(seeded, &mut reading);
         }
     }
-    if once_in(seeded, 16) {
+    if seeded.once_in(16) {
         wrong_lengths(seeded, &mut reading);
     }
     reading
-}
-
-/// The least space for so many groups, somewhat more, or less.
-fn random_space(seeded: &mut Seeded, groups: usize) -> usize {
-    let least = (7 * groups).saturating_sub(1);
-    match seeded.below(24) {
-        0 => least.saturating_sub(1),
-        1 => index(seeded, least + 1),
-        2..=12 => least,
-        _ => least + index(seeded, 12),
-    }
 }
 
 /// How a case is told; a long one by its number and lengths only.
@@ -247,7 +227,7 @@ pub fn random_readings(direction: Direction) -> Tried {
     let (mut answers, mut changed) = ([0; 7], 0);
     for case in 0..CASES {
         let reading = random_reading(&mut seeded, case);
-        let space = random_space(&mut seeded, reading.maps.len());
+        let space = seeded.space((7 * reading.maps.len()).saturating_sub(1));
         match compare(&mut tried, direction, reading, space) {
             Answer::Delivered(values) => {
                 answers[0] += 1;

@@ -15,23 +15,14 @@ const BEHIND: usize = 16;
 /// The answers that document 01 has for reading at 800.
 const READING: [usize; 6] = [0, 1, 2, 3, 7, 8];
 
-fn index(seeded: &mut Seeded, bound: usize) -> usize {
-    seeded.below(bound as u64) as usize
-}
-
-/// Once in so many.
-fn once_in(seeded: &mut Seeded, bound: u64) -> bool {
-    seeded.below(bound) == 0
-}
-
 /// Short data mostly, and the limit: 2,048 bytes.
 fn random_data(seeded: &mut Seeded, case: usize) -> Vec<u8> {
     let length = match case % 64 {
-        0 => 2048 - [0, index(seeded, 20)][index(seeded, 2)],
-        1..=3 => 1 + index(seeded, 700),
-        _ => 1 + index(seeded, 40),
+        0 => 2048 - [0, seeded.index(20)][seeded.index(2)],
+        1..=3 => 1 + seeded.index(700),
+        _ => 1 + seeded.index(40),
     };
-    let mask = [0xFF, 0xFF, 0xFF, 0x81, 0x01, 0][index(seeded, 6)];
+    let mask = [0xFF, 0xFF, 0xFF, 0x81, 0x01, 0][seeded.index(6)];
     (0..length).map(|_| seeded.next() as u8 & mask).collect()
 }
 
@@ -39,9 +30,9 @@ fn random_data(seeded: &mut Seeded, case: usize) -> Vec<u8> {
 /// A place may come twice, and the track is then right in it.
 fn some_places(seeded: &mut Seeded, length: usize) -> Vec<usize> {
     match seeded.below(4) {
-        0 => vec![index(seeded, length)],
-        1 => vec![length - 1 - index(seeded, 2), length - 1 - index(seeded, 3)],
-        2 => (0..1 + index(seeded, 5)).map(|_| index(seeded, length)).collect(),
+        0 => vec![seeded.index(length)],
+        1 => vec![length - 1 - seeded.index(2), length - 1 - seeded.index(3)],
+        2 => (0..1 + seeded.index(5)).map(|_| seeded.index(length)).collect(),
         _ => (0..length).filter(|_| seeded.below(2) == 1).collect(),
     }
 }
@@ -59,17 +50,17 @@ fn one_track(seeded: &mut Seeded, characters: &mut [u16]) {
 
 /// Two tracks wrong, in the same characters, which keep their parity, or each in its own.
 fn two_tracks(seeded: &mut Seeded, characters: &mut [u16]) {
-    let first = index(seeded, 9);
-    let second = (first + 1 + index(seeded, 8)) % 9;
+    let first = seeded.index(9);
+    let second = (first + 1 + seeded.index(8)) % 9;
     let places = some_places(seeded, characters.len());
     flip(characters, &places, 1 << first);
-    let others = if once_in(seeded, 2) { places } else { some_places(seeded, characters.len()) };
+    let others = if seeded.once_in(2) { places } else { some_places(seeded, characters.len()) };
     flip(characters, &others, 1 << second);
 }
 
 fn single_bits(seeded: &mut Seeded, characters: &mut [u16]) {
-    for _ in 0..1 + index(seeded, 3) {
-        let place = index(seeded, characters.len());
+    for _ in 0..1 + seeded.index(3) {
+        let place = seeded.index(characters.len());
         characters[place] ^= 1 << seeded.below(9);
     }
 }
@@ -89,12 +80,12 @@ fn multiple_of_g2(seeded: &mut Seeded, characters: &mut [u16]) {
         return one_track(seeded, characters);
     }
     let bit = 1 << seeded.below(9);
-    let terms = [1, 1, 2, 3, 1 + index(seeded, n)][index(seeded, 5)];
+    let terms = [1, 1, 2, 3, 1 + seeded.index(n)][seeded.index(5)];
     for _ in 0..terms {
-        let shift = index(seeded, n - 7);
+        let shift = seeded.index(n - 7);
         flip(characters, &G2.map(|power| n - power - shift), bit);
     }
-    let even = !once_in(seeded, 4);
+    let even = !seeded.once_in(4);
     if even == (terms % 2 == 1) {
         flip(characters, &[n + 1], bit);
     }
@@ -106,8 +97,8 @@ fn far_apart(seeded: &mut Seeded, characters: &mut [u16]) {
     if n < 18 {
         return one_track(seeded, characters);
     }
-    let distance = 17 * (1 + index(seeded, (n - 1) / 17)) + [0, 0, 0, 1][index(seeded, 4)];
-    let first = index(seeded, n + 1 - distance.min(n));
+    let distance = 17 * (1 + seeded.index((n - 1) / 17)) + [0, 0, 0, 1][seeded.index(4)];
+    let first = seeded.index(n + 1 - distance.min(n));
     flip(characters, &[first, first + distance.min(n)], 1 << seeded.below(9));
 }
 
@@ -125,9 +116,9 @@ fn damage(seeded: &mut Seeded, characters: &mut [u16]) {
 /// A character beyond its width: by one of the upper bits, by all, or anything.
 fn stray(seeded: &mut Seeded, characters: &mut [u16]) {
     let place = match seeded.below(4) {
-        0 => characters.len() - 1 - index(seeded, 2),
+        0 => characters.len() - 1 - seeded.index(2),
         1 => 0,
-        _ => index(seeded, characters.len()),
+        _ => seeded.index(characters.len()),
     };
     match seeded.below(3) {
         0 => characters[place] = 512,
@@ -139,9 +130,9 @@ fn stray(seeded: &mut Seeded, characters: &mut [u16]) {
 /// Lengths beyond the limits, and lengths within them that are not the record's.
 fn wrong_length(seeded: &mut Seeded, characters: &mut Vec<u16>) {
     match seeded.below(6) {
-        0 => characters.truncate(index(seeded, 3)),
+        0 => characters.truncate(seeded.index(3)),
         1 => characters.resize(2051, 256),
-        2 => *characters = [written(&vec![0; 2048]), vec![256; 1 + index(seeded, 5)]].concat(),
+        2 => *characters = [written(&vec![0; 2048]), vec![256; 1 + seeded.index(5)]].concat(),
         3 => *characters = characters.split_off(1),
         4 => characters.truncate(characters.len() - 1),
         _ => characters.push(256),
@@ -151,29 +142,19 @@ fn wrong_length(seeded: &mut Seeded, characters: &mut Vec<u16>) {
 /// A reading of some record in forward order, undamaged or damaged in one way or in several.
 fn random_reading(seeded: &mut Seeded, case: usize) -> Vec<u16> {
     let mut characters = written(&random_data(seeded, case));
-    for _ in 0..[0, 1, 1, 1, 1, 2][index(seeded, 6)] {
+    for _ in 0..[0, 1, 1, 1, 1, 2][seeded.index(6)] {
         damage(seeded, &mut characters);
     }
-    if once_in(seeded, 16) {
+    if seeded.once_in(16) {
         stray(seeded, &mut characters);
-        if once_in(seeded, 2) {
+        if seeded.once_in(2) {
             stray(seeded, &mut characters);
         }
     }
-    if once_in(seeded, 16) {
+    if seeded.once_in(16) {
         wrong_length(seeded, &mut characters);
     }
     characters
-}
-
-/// The least space, somewhat more, or less.
-fn random_space(seeded: &mut Seeded, least: usize) -> usize {
-    match seeded.below(24) {
-        0 => least.saturating_sub(1),
-        1 => index(seeded, least + 1),
-        2..=12 => least,
-        _ => least + index(seeded, 12),
-    }
 }
 
 /// How a case is told; a long one by its number and length only.
@@ -255,7 +236,7 @@ pub fn random_readings(direction: Direction) -> Tried {
     for case in 0..CASES {
         let reading = random_reading(&mut seeded, case);
         let length = reading.len();
-        let space = random_space(&mut seeded, length.saturating_sub(2));
+        let space = seeded.space(length.saturating_sub(2));
         let answer = compare(&mut tried, direction, reading, space);
         answers[number_of(&answer)] += 1;
         longest[number_of(&answer)] += usize::from(length == 2050);
@@ -275,10 +256,10 @@ pub fn random_writes() -> Tried {
     for case in 0..CASES {
         tried.cases += 1;
         let mut bytes = random_data(&mut seeded, case);
-        if once_in(&mut seeded, 32) {
-            bytes.resize([0, 2049, 2050, 3000][index(&mut seeded, 4)], 0);
+        if seeded.once_in(32) {
+            bytes.resize([0, 2049, 2050, 3000][seeded.index(4)], 0);
         }
-        let space = random_space(&mut seeded, bytes.len() + 2);
+        let space = seeded.space(bytes.len() + 2);
         let mut characters = vec![LENT; space + BEHIND];
         let mut after = vec![LENT; space + BEHIND];
         let got = library::write800(&bytes, &mut characters[..space]);

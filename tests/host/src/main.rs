@@ -30,6 +30,24 @@ impl Seeded {
     fn below(&mut self, bound: u64) -> u64 {
         self.next() % bound
     }
+
+    fn index(&mut self, bound: usize) -> usize {
+        self.below(bound as u64) as usize
+    }
+
+    fn once_in(&mut self, bound: u64) -> bool {
+        self.below(bound) == 0
+    }
+
+    /// The least space that a call needs, somewhat more, or less.
+    fn space(&mut self, least: usize) -> usize {
+        match self.below(24) {
+            0 => least.saturating_sub(1),
+            1 => self.index(least + 1),
+            2..=12 => least,
+            _ => least + self.index(12),
+        }
+    }
 }
 
 /// The cases tried, what went wrong in those that differ, and what else the suite tells of them.
