@@ -1,8 +1,12 @@
 // The check characters of document 003: the code's constants, and its two registers.
+mod step;
+
+pub use step::enter;
+pub use step::stepped;
 ghost use mathlib.Core.Path.{_≡_};
-ghost use Prim.Native.Nat.{_*_, _<_};
-ghost use Rattle.register.specs.Xor.{_⊕_};
+ghost use Prim.Native.Nat.{_<_};
 ghost use Rattle.cyclic.specs.Constants.{timesX};
+ghost use Rattle.cyclic.specs.Step.{Advanced};
 
 // The check register (CRCR) and the error-pattern register (EPR) of document 003, figure 1.
 pub struct Code800 {
@@ -38,7 +42,7 @@ impl Code800 {
     // and, if its parity is wrong, X^8 to the second.
     pub fn entered(self, character: u16, wrong: u16) -> Code800
         requires { ⌜ wrong < 2 ⌝ }
-        ensures { λ r. ⌜ (r .check ≡ timesX (self .check) ⊕ character) × (r .error ≡ timesX (self .error) ⊕ wrong * 256) ⌝ }
+        ensures { λ r. ⌜ Advanced self character wrong r ⌝ }
     {
         Code800 {
             check: shift(self.check) ^ character,

@@ -9,3 +9,4 @@ pub mod Front
 pub mod Blocks
 pub mod Part
 pub mod Map
+pub mod Walk

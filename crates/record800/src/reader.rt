@@ -7,6 +7,7 @@ use answer::Reason;
 use answer::Refusal;
 use cyclic::Code800;
 use cyclic::shift;
+use cyclic::stepped;
 ghost use mathlib.Core.Bool.{true, false, cond, _&&_};
 ghost use mathlib.Core.List.{List, [], _∷_, _++_};
 ghost use mathlib.Core.Path.{_≡_};
@@ -61,7 +62,7 @@ fn gather(characters: &[u16], backward: bool) -> Gathered
     while k < n {
         let next = forward_character(characters, backward, k);
         let odd = parity(next) ^ 1;
-        registers = registers.entered(next, odd);
+        registers = stepped(registers, next, odd);
         longitudinal = longitudinal ^ next;
         wrong += odd as usize;
         k += 1;
@@ -70,7 +71,7 @@ fn gather(characters: &[u16], backward: bool) -> Gathered
     let odd_check = parity(check) ^ (((n + 1) % 2) as u16);
     let last = forward_character(characters, backward, n + 1);
     let odd_last = parity(last) ^ 1;
-    let entered = registers.entered(check, odd_check);
+    let entered = stepped(registers, check, odd_check);
     Gathered {
         check: entered.check,
         error: entered.error,

@@ -63,8 +63,8 @@ parity-requires c κs =
     let within = lengths-within b characters (start .pre) in
     rw (c .forward-character .ensures) (picture-below b characters (start .pre) _)
 
-entered-requires : tie.Need-entered-requires Inv-loop μ-loop
-entered-requires c κs =
+stepped-requires : tie.Need-stepped-requires Inv-loop μ-loop
+stepped-requires c κs =
     xor-lt 1 (c .parity .result) 1 (rw (c .parity .ensures) (parity-lt _)) (omega arith)
 
 cast-wrong : tie.Need-cast-wrong Inv-loop μ-loop
@@ -104,7 +104,7 @@ loop-again c =
     ap (λ (p : ℕ). p ⊕ 1) (c .before .parity .ensures ∙ ap parity next) ∙ data-wrong n l below (at .k) (c .before .before .before .loop-test .taken) in
     let stepped = step n l below (at .k) (at .registers .check) (at .registers .error) (at .longitudinal) (at .wrong) (at .inv .1) _ _ next odd in (
       search needs,
-      (c .entered .ensures .0 ∙ stepped .0, c .entered .ensures .1 ∙ stepped .1, stepped .2, stepped .3),
+      (c .stepped .ensures .0 ∙ stepped .0, c .stepped .ensures .1 ∙ stepped .1, stepped .2, stepped .3),
     )
 
 forward-character-requires-2 : tie.Need-forward-character-requires-2 Inv-loop μ-loop
@@ -170,8 +170,8 @@ parity-requires-3 c κs =
     let within = lengths-within b characters (start .pre) in
     rw (c .forward-character3 .ensures) (picture-below b characters (start .pre) _)
 
-entered-requires-2 : tie.Need-entered-requires-2 Inv-loop μ-loop
-entered-requires-2 c κs =
+stepped-requires-2 : tie.Need-stepped-requires-2 Inv-loop μ-loop
+stepped-requires-2 c κs =
     let start = c .before .before .before .before .before .before .before .before in
     let b = start .args .backward in
     let characters = now (start .args .characters) in
@@ -245,7 +245,7 @@ returns c =
     let gathered : After n l n (at .registers .check) (at .registers .error) (at .longitudinal) (at .wrong) = subst (λ (k : ℕ). After n l k (at .registers .check) (at .registers .error) (at .longitudinal) (at .wrong)) all (at .inv .1) in
     let stepped = step n l below n (at .registers .check) (at .registers .error) (at .longitudinal) (at .wrong) gathered _ _ check odd-check in
     let told = finish n l below _ _ _ _ _ _ stepped last odd-last in
-    (c .entered2 .ensures .0 ∙ told .0, c .entered2 .ensures .1 ∙ told .1, told .2, told .3)
+    (c .stepped2 .ensures .0 ∙ told .0, c .stepped2 .ensures .1 ∙ told .1, told .2, told .3)
 
 pub gather-spec : {M : Type 1} → statement M
 gather-spec =
@@ -258,7 +258,7 @@ gather-spec =
     loop-holds
     forward-character-requires
     parity-requires
-    entered-requires
+    stepped-requires
     cast-wrong
     add-wrong
     add-k
@@ -271,7 +271,7 @@ gather-spec =
     add-forward-character
     forward-character-requires-3
     parity-requires-3
-    entered-requires-2
+    stepped-requires-2
     cast-t15
     add-t20
     cast-t22
