@@ -1,52 +1,35 @@
 -- Words as they are read: each byte is read back from its word, each legal word is the word of its value, and a word turned
 -- twice is as it was. All are computed tests.
 -- Assumes nothing.
-use mathlib.Core.Path.{_≡_, sym, ap, ap₂, _∙_}
-use mathlib.Core.Bool.{Bool, cond, _&&_}
-use Prim.Native.Nat.{ℕ, _+_, _*_, _/_, _%_, _<_}
+use mathlib.Core.Path.{_≡_, sym, ap, _∙_}
+use mathlib.Core.Bool.{Bool, true, false, cond}
+use Prim.Native.Nat.{ℕ, _/_, _%_, _<_}
 use native.Mathlib.Nat.{mod-lt, zero-lt-suc}
 use native.Mathlib.Decide.{decLt}
 use native.Mathlib.Omega.{arith}
 use borrow.Author.Tests.{lt-ltb}
-use lib.Bits.{bitOr}
 use lib.Dec.{eqb, ltb, ltb→lt}
 use lib.ListN.{getD}
 use Rattle.indexed.specs.List.{tabulate, tabulateFrom, firstWhere}
-use Rattle.indexed.proofs.Test.{tested, equal, equal₂}
+use Rattle.indexed.proofs.Tabulate.{getD-tabulate}
+use Rattle.indexed.proofs.Test.{tested, equal}
 use Rattle.register.specs.Bit.{bit, ofBits}
 use Rattle.group_code.specs.Code.{decoded, legal, wordOf}
-use Rattle.group_code.specs.Word.{legalWord, valueOf, illegality, mirrored, reversedWord, numbers, mirroredNumbers}
-
--- ---- the tables
-
-pub number-is : (code : ℕ) → code < 32 → getD numbers code 0 ≡ decoded code
-unfolding decoded firstWhere
-number-is = equal 32 (λ c. getD numbers c 0) decoded tt
-
-pub mirrored-number-is : (code : ℕ) → code < 32 → getD mirroredNumbers code 0 ≡ decoded (mirrored 5 code)
-unfolding decoded firstWhere mirrored ofBits bit tabulate tabulateFrom
-mirrored-number-is = equal 32 (λ c. getD mirroredNumbers c 0) (λ c. decoded (mirrored 5 c)) tt
-
-pub number-le : (code : ℕ) → code < 32 → getD numbers code 0 < 17
-number-le code h = ltb→lt _ 17 (tested 32 (λ c. ltb (getD numbers c 0) 17) tt code h)
-
-pub mirrored-number-le : (code : ℕ) → code < 32 → getD mirroredNumbers code 0 < 17
-mirrored-number-le code h = ltb→lt _ 17 (tested 32 (λ c. ltb (getD mirroredNumbers c 0) 17) tt code h)
-
--- two numbers as a value and a mark, and what they are of a word's halves
-pub joined-is : (word upper lower : ℕ) → upper < 17 → lower < 17 → upper ≡ decoded (word / 32) → lower ≡ decoded (word % 32)
-    → (upper * 16 + lower) % 256 + bitOr (upper / 16) (lower / 16) * 256 ≡ valueOf word + 256 * illegality word
-unfolding valueOf illegality legalWord legal
-joined-is word upper lower hu hl eu el =
-    ap (λ (m : ℕ). (upper * 16 + lower) % 256 + m)
-    (equal₂ 17 17 (λ u l. bitOr (u / 16) (l / 16) * 256) (λ u l. 256 * cond (ltb u 16 && ltb l 16) 0 1) tt upper lower hu hl)
-    ∙ ap₂ (λ (u l : ℕ). (u * 16 + l) % 256 + 256 * cond (ltb u 16 && ltb l 16) 0 1) eu el
+use Rattle.group_code.specs.Word.{legalWord, valueOf, illegality, mirrored, reversedWord, forwardWord, readOf, readings}
 
 -- ---- words and values
 
 pub value-lt : (word : ℕ) → valueOf word < 256
 unfolding valueOf
 value-lt word = mod-lt _ (zero-lt-suc 255)
+
+pub illegality-lt : (word : ℕ) → illegality word < 2
+unfolding illegality
+illegality-lt word = by (legalWord word)
+  where
+    by : (legal : Bool) → cond legal 0 1 < 2
+    by true = omega arith
+    by false = omega arith
 
 pub word-lt : (byte : ℕ) → byte < 256 → wordOf byte < 1024
 word-lt byte h = ltb→lt _ 1024 (tested 256 (λ b. ltb (wordOf b) 1024) tt byte h)
@@ -90,10 +73,17 @@ reversed-twice word = by (decLt word 1024)
     by (yes h) = twice-below word h
     by (no h) = let stays : reversedWord word ≡ word = reversed-above word (omega arith) in ap reversedWord stays ∙ stays
 
-pub upper-reversed : (word : ℕ) → word < 1024 → reversedWord word / 32 ≡ mirrored 5 (word % 32)
-unfolding reversedWord mirrored ofBits bit tabulate tabulateFrom
-upper-reversed = equal 1024 (λ w. reversedWord w / 32) (λ w. mirrored 5 (w % 32)) tt
+-- ---- the tables of readings
 
-pub lower-reversed : (word : ℕ) → word < 1024 → reversedWord word % 32 ≡ mirrored 5 (word / 32)
-unfolding reversedWord mirrored ofBits bit tabulate tabulateFrom
-lower-reversed = equal 1024 (λ w. reversedWord w % 32) (λ w. mirrored 5 (w / 32)) tt
+pub getD-readings : (backward : Bool) (word : ℕ) → word < 1024 → getD (readings backward) word 0 ≡ readOf backward word
+unfolding readings
+getD-readings backward word h = getD-tabulate 1024 (readOf backward) word 0 h
+
+-- the value and the mark of a word, out of what it reads
+pub read-value : (backward : Bool) (word : ℕ) → readOf backward word % 256 ≡ valueOf (forwardWord backward word)
+unfolding readOf
+read-value backward word = let w = forwardWord backward word in omega (arith, value-lt w, illegality-lt w)
+
+pub read-mark : (backward : Bool) (word : ℕ) → readOf backward word / 256 ≡ illegality (forwardWord backward word)
+unfolding readOf
+read-mark backward word = let w = forwardWord backward word in omega (arith, value-lt w, illegality-lt w)

@@ -2,7 +2,7 @@
 -- Assumes nothing.
 use Prim.Native.Nat.{ℕ, _+_, _-_, _*_, _/_, _%_}
 use mathlib.Core.Bool.{Bool, cond, _&&_}
-use mathlib.Core.List.{List, [], _∷_}
+use mathlib.Core.List.{List}
 use lib.Dec.{ltb}
 use Rattle.indexed.specs.List.{tabulate}
 use Rattle.register.specs.Bit.{bit, ofBits}
@@ -32,11 +32,10 @@ reversedWord word = cond (ltb 1023 word) word (mirrored 10 word)
 unfoldable pub forwardWord : Bool → ℕ → ℕ
 forwardWord backward word = cond backward (reversedWord word) word
 
--- the numbers of the 32 five-bit values, 16 for an illegal one, and those of the values reversed
-abbrev pub numbers : List ℕ
-numbers =
-    16 ∷ 16 ∷ 16 ∷ 16 ∷ 16 ∷ 16 ∷ 16 ∷ 16 ∷ 16 ∷ 9 ∷ 10 ∷ 11 ∷ 16 ∷ 13 ∷ 14 ∷ 15 ∷ 16 ∷ 16 ∷ 2 ∷ 3 ∷ 16 ∷ 5 ∷ 6 ∷ 7 ∷ 16 ∷ 0 ∷ 8 ∷ 1 ∷ 16 ∷ 4 ∷ 12 ∷ 16 ∷ []
+-- how a word of a reading reads: the value of its forward word, and in bit 8 whether that is illegal
+unfoldable pub readOf : Bool → ℕ → ℕ
+readOf backward word = valueOf (forwardWord backward word) + 256 * illegality (forwardWord backward word)
 
-abbrev pub mirroredNumbers : List ℕ
-mirroredNumbers =
-    16 ∷ 16 ∷ 16 ∷ 16 ∷ 16 ∷ 16 ∷ 16 ∷ 16 ∷ 16 ∷ 2 ∷ 10 ∷ 8 ∷ 16 ∷ 6 ∷ 14 ∷ 12 ∷ 16 ∷ 16 ∷ 9 ∷ 0 ∷ 16 ∷ 5 ∷ 13 ∷ 4 ∷ 16 ∷ 3 ∷ 11 ∷ 1 ∷ 16 ∷ 7 ∷ 15 ∷ 16 ∷ []
+-- how each word of ten bits reads
+unfoldable pub readings : Bool → List ℕ
+readings backward = tabulate 1024 (readOf backward)

@@ -2,7 +2,7 @@
 -- corrects values; a track that is not pointed has a legal word, so its word is right exactly if its value is.
 -- Assumes nothing.
 use mathlib.Core.Path.{_≡_, refl, sym, ap, subst, _∙_}
-use mathlib.Core.Bool.{Bool, true, false, cond, false≢true}
+use mathlib.Core.Bool.{Bool, true, false, false≢true}
 use mathlib.Core.List.{List, map}
 use mathlib.Core.Logic.{_⊎_, inl, inr}
 use Prim.Native.Nat.{ℕ, _-_, _<_}
@@ -20,8 +20,8 @@ use Rattle.register.proofs.Xor.{digit}
 use Rattle.indexed.proofs.Total.{differences-same}
 use Rattle.register.proofs.Ones.{bit-or, bit-of-tabulate}
 use Rattle.group_code.specs.Code.{wordOf}
-use Rattle.group_code.specs.Word.{valueOf, legalWord, illegality}
-use Rattle.group_code.proofs.Words.{value-lt, value-of-word, word-of-value}
+use Rattle.group_code.specs.Word.{valueOf, illegality}
+use Rattle.group_code.proofs.Words.{value-lt, illegality-lt, value-of-word, word-of-value}
 use Rattle.rectangular.specs.Constants.{feedback}
 use Rattle.rectangular.specs.Correction.{pointedTracks, Allowed, Judgement, corrected, manyPointed, noGroup}
 use Rattle.rectangular.specs.Group.{track, group, informationOf, IsGroup}
@@ -66,14 +66,6 @@ same-test a b c d to from = by (eqb a b) refl
     by : (t : Bool) → eqb a b ≡ t → t ≡ eqb c d
     by true e = sym (eq-eqb c d (to (eqb-true a b e)))
     by false e = sym (ne-eqb c d (λ q. eqb-false a b e (from q)))
-
-pub illegality-lt : (word : ℕ) → illegality word < 2
-unfolding illegality
-illegality-lt word = by (legalWord word)
-  where
-    by : (t : Bool) → cond t 0 1 < 2
-    by true = omega arith
-    by false = omega arith
 
 -- of two digits, if none is 1 the second is 0
 second-zero : (a b : ℕ) → (a ≡ 0) ⊎ (a ≡ 1) → (b ≡ 0) ⊎ (b ≡ 1) → bitOr a b ≡ 0 → b ≡ 0

@@ -19,7 +19,7 @@ use Rattle.register.proofs.Expand.{bits-ext}
 use Rattle.register.proofs.Ones.{bit-or, bit-of-tabulate, tabulated-lt}
 use Rattle.group_code.specs.Code.{wordOf}
 use Rattle.group_code.specs.Word.{valueOf, illegality, forwardWord}
-use Rattle.group_code.proofs.Words.{value-of-word, word-legal, word-of-value}
+use Rattle.group_code.proofs.Words.{illegality-lt, value-of-word, word-legal, word-of-value}
 use Rattle.rectangular.specs.Constants.{feedback, exponent}
 use Rattle.rectangular.specs.Correction.{pointedTracks, corrected, judged}
 use Rattle.rectangular.specs.Judged.{changedMap}
@@ -30,7 +30,7 @@ use Rattle.record6250.specs.Fits.{Passes}
 use Rattle.record6250.specs.Group.{illegalMap, pointed, judgedGroup, rightValues, rightWords}
 use Rattle.record6250.specs.Picture.{groupRead, mapRead}
 use Rattle.record6250.specs.Read.{readGroup, readMap, judgement, changedTracks}
-use Rattle.record6250.proofs.FittingGroup.{illegality-lt, same-test, group-sound}
+use Rattle.record6250.proofs.FittingGroup.{same-test, group-sound}
 use Rattle.record6250.proofs.Picture.{turned-lt, turned-twice}
 use Rattle.record6250.proofs.Reading.{words-long, words-below}
 use Rattle.record6250.proofs.Scan.{forward-above}

@@ -4,17 +4,19 @@ ghost use mathlib.Core.Path.{_≡_};
 ghost use mathlib.Core.List.{_++_, map};
 ghost use Prim.Native.Nat.{_≤_};
 ghost use lib.ListN.{length, drop};
+ghost use Rattle.indexed.specs.List.{tabulate};
 ghost use Rattle.group_code.specs.Code.{wordOf};
 ghost use Rattle.rectangular.specs.Packed.{valuesOf};
 
 // Stores a group's nine words at the front.
-pub(crate) fn store(words: &mut [u16], group: Group)
-    requires { ⌜ 9 ≤ length (now words) ⌝ }
+pub(crate) fn store(words: &mut [u16], group: Group, table: &[u16])
+    requires { ⌜ (9 ≤ length (now words)) × (now table ≡ tabulate 256 wordOf) ⌝ }
     ensures { λ _. ⌜ now (words .exit) ≡ map wordOf (valuesOf group) ++ drop 9 (now (words .entry)) ⌝ }
 {
     let mut j = 0;
     while j < 9 {
-        words[j] = group_code::word(group.value(j));
+        let value = group.value(j) as usize;
+        words[j] = table[value];
         j += 1;
     }
 }

@@ -10,6 +10,8 @@ use crate::stray::first_stray;
 use crate::stray::lent_place;
 use answer::Reason;
 use answer::Refusal;
+use group_code::backward_readings;
+use group_code::forward_readings;
 use rectangular::Code6250;
 use rectangular::group::Group;
 use rectangular::judge::Correction;
@@ -20,6 +22,7 @@ ghost use mathlib.Core.List.{_++_};
 ghost use mathlib.Core.Path.{_≡_};
 ghost use Prim.Native.Nat.{_-_, _*_, _<_, _≤_};
 ghost use lib.ListN.{length, take, drop};
+ghost use Rattle.group_code.specs.Word.{readings};
 ghost use Rattle.answer.specs.Answer.{refusedFor, outputAfter};
 ghost use Rattle.rectangular.specs.Judged.{toldJudged, toldChanged};
 ghost use Rattle.record6250.specs.Fits.{Passes};
@@ -34,13 +37,13 @@ enum Scan {
 }
 
 // Judges group g of a reading.
-fn judge_group(words: &[u16], maps: &[u16], backward: bool, g: usize) -> Judged
-    requires { ⌜ Passes backward (now words) (now maps) × (g < length (now maps)) ⌝ }
+fn judge_group(words: &[u16], maps: &[u16], backward: bool, table: &[u16], g: usize) -> Judged
+    requires { ⌜ Passes backward (now words) (now maps) × (g < length (now maps)) × (now table ≡ readings backward) ⌝ }
     ensures told { λ r. ⌜ toldJudged r ≡ judgement backward (now (words .entry)) (now (maps .entry)) g ⌝ }
     ensures changed { λ r. ⌜ (isCorrected (toldJudged r) ≡ true → toldChanged r ≡ changedTracks backward (now (words .entry)) (now (maps .entry)) g) ⌝ }
 {
     let place = lent_place(backward, maps.len(), g);
-    let received = receive(words, place * 9, backward);
+    let received = receive(words, place * 9, backward, table);
     let group = Group {
         tracks: received.tracks,
         parity: received.parity,
@@ -57,15 +60,15 @@ fn judge_group(words: &[u16], maps: &[u16], backward: bool, g: usize) -> Judged
 }
 
 // Judges every group and gathers the corrected bytes, seven a group, at the front of the body.
-fn correct_all(words: &[u16], maps: &[u16], backward: bool, body: &mut [u8]) -> Scan
-    requires { ⌜ Passes backward (now words) (now maps) × (7 * length (now maps) ≤ length (now body)) ⌝ }
+fn correct_all(words: &[u16], maps: &[u16], backward: bool, table: &[u16], body: &mut [u8]) -> Scan
+    requires { ⌜ Passes backward (now words) (now maps) × (7 * length (now maps) ≤ length (now body)) × (now table ≡ readings backward) ⌝ }
     ensures told { λ r. ⌜ toldScan r ≡ scanAnswer backward (now (words .entry)) (now (maps .entry)) ⌝ }
     ensures gathered { λ _. ⌜ (firstUnfit backward (now (words .entry)) (now (maps .entry)) ≡ length (now (maps .entry)) → now (body .exit) ≡ readBody backward (now (words .entry)) (now (maps .entry)) ++ drop (7 * length (now (maps .entry))) (now (body .entry))) ⌝ }
 {
     let mut changes: usize = 0;
     let mut g = 0;
     while g < maps.len() {
-        match judge_group(words, maps, backward, g) {
+        match judge_group(words, maps, backward, table, g) {
             Judged::Corrected(right) => {
                 let at = g * 7;
                 unpack(&mut body[at..], right.tracks);
@@ -111,14 +114,15 @@ fn read_within(
     words: &[u16],
     maps: &[u16],
     backward: bool,
+    table: &[u16],
     body: &mut [u8],
     output: &mut [u8],
 ) -> Read
-    requires { ⌜ Passes backward (now words) (now maps) × (7 * length (now maps) ≤ length (now body)) × (7 * length (now maps) - 1 ≤ length (now output)) ⌝ }
+    requires { ⌜ Passes backward (now words) (now maps) × (7 * length (now maps) ≤ length (now body)) × (7 * length (now maps) - 1 ≤ length (now output)) × (now table ≡ readings backward) ⌝ }
     ensures answer { λ r. ⌜ toldRead r ≡ judgedAnswer backward (now (words .entry)) (now (maps .entry)) ⌝ }
     ensures output { λ r. ⌜ now (output .exit) ≡ outputAfter (toldRead r) (readData backward (now (words .entry)) (now (maps .entry))) (now (output .entry)) ⌝ }
 {
-    match correct_all(words, maps, backward, body) {
+    match correct_all(words, maps, backward, table, body) {
         Scan::Fits(changes) => delivered(body, maps.len() * 7, changes, output),
         Scan::Unfit(refusal) => Read::Refused(refusal),
     }
@@ -143,8 +147,10 @@ fn lengths_suit(words: usize, maps: usize) -> bool
     words == maps * 9
 }
 
-// Reads a record, forward or backward. A short record takes a small array, since an array is cleared.
-fn read(words: &[u16], maps: &[u16], backward: bool, output: &mut [u8]) -> Read
+// Reads a record, forward or backward, with the table of that direction. A short record takes a small
+// array, since an array is cleared.
+fn read(words: &[u16], maps: &[u16], backward: bool, table: &[u16], output: &mut [u8]) -> Read
+    requires { ⌜ now table ≡ readings backward ⌝ }
     ensures answer { λ r. ⌜ toldRead r ≡ readAnswer backward (now (words .entry)) (now (maps .entry)) (length (now (output .entry))) ⌝ }
     ensures output { λ r. ⌜ now (output .exit) ≡ outputAfter (toldRead r) (readData backward (now (words .entry)) (now (maps .entry))) (now (output .entry)) ⌝ }
 {
@@ -161,10 +167,10 @@ fn read(words: &[u16], maps: &[u16], backward: bool, output: &mut [u8]) -> Read
     }
     if groups <= 16 {
         let mut short = [0u8; 112];
-        return read_within(words, maps, backward, &mut short, output);
+        return read_within(words, maps, backward, table, &mut short, output);
     }
     let mut body = [0u8; 4102];
-    read_within(words, maps, backward, &mut body, output)
+    read_within(words, maps, backward, table, &mut body, output)
 }
 
 // Reads a record forward: the words of each group, tracks 0 to 8, and a pointer map for each.
@@ -172,7 +178,8 @@ pub fn read_forward(words: &[u16], maps: &[u16], output: &mut [u8]) -> Read
     ensures answer { λ r. ⌜ toldRead r ≡ readAnswer false (now (words .entry)) (now (maps .entry)) (length (now (output .entry))) ⌝ }
     ensures output { λ r. ⌜ now (output .exit) ≡ outputAfter (toldRead r) (readData false (now (words .entry)) (now (maps .entry))) (now (output .entry)) ⌝ }
 {
-    read(words, maps, false, output)
+    let table = forward_readings();
+    read(words, maps, false, &table, output)
 }
 
 // Reads a record that passed the head backward: groups and maps last first, each word's bits reversed.
@@ -180,5 +187,6 @@ pub fn read_backward(words: &[u16], maps: &[u16], output: &mut [u8]) -> Read
     ensures answer { λ r. ⌜ toldRead r ≡ readAnswer true (now (words .entry)) (now (maps .entry)) (length (now (output .entry))) ⌝ }
     ensures output { λ r. ⌜ now (output .exit) ≡ outputAfter (toldRead r) (readData true (now (words .entry)) (now (maps .entry))) (now (output .entry)) ⌝ }
 {
-    read(words, maps, true, output)
+    let table = backward_readings();
+    read(words, maps, true, &table, output)
 }

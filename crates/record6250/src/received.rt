@@ -4,7 +4,7 @@ ghost use mathlib.Core.Path.{_≡_};
 ghost use Prim.Native.Nat.{ℕ, _+_, _<_, _≤_};
 ghost use lib.ListN.{length, getD};
 ghost use Rattle.indexed.specs.List.{tabulate};
-ghost use Rattle.group_code.specs.Word.{valueOf, forwardWord};
+ghost use Rattle.group_code.specs.Word.{valueOf, forwardWord, readings};
 ghost use Rattle.record6250.specs.Group.{illegalMap};
 ghost use Rattle.record6250.specs.Received.{receivedValues};
 
@@ -15,26 +15,50 @@ pub(crate) struct Received {
     pub illegal: u16,
 }
 
-// Receives the nine words from an index on.
-pub(crate) fn receive(words: &[u16], at: usize, backward: bool) -> Received
-    requires { ⌜ (at + 9 ≤ length (now words)) × ((k : ℕ) → getD (now words) k 0 < 1024) ⌝ }
+// The tracks with an illegal word among the nine from an index on.
+fn illegal_tracks(words: &[u16], at: usize, backward: bool, table: &[u16]) -> u16
+    requires { ⌜ (at + 9 ≤ length (now words)) × ((k : ℕ) → getD (now words) k 0 < 1024) × (now table ≡ readings backward) ⌝ }
+    ensures { λ r. ⌜ r ≡ illegalMap (tabulate 9 (λ k. forwardWord backward (getD (now (words .entry)) (at + k) 0))) ⌝ }
+{
+    let mut illegal: u16 = 0;
+    let mut k = 0;
+    while k < 9 {
+        let word = words[at + k] as usize;
+        illegal = illegal + ((table[word] / 256) << k);
+        k += 1;
+    }
+    illegal
+}
+
+// Receives the nine words from an index on, each by one look-up. Illegal words are rare: all are looked
+// for at once.
+pub(crate) fn receive(words: &[u16], at: usize, backward: bool, table: &[u16]) -> Received
+    requires { ⌜ (at + 9 ≤ length (now words)) × ((k : ℕ) → getD (now words) k 0 < 1024) × (now table ≡ readings backward) ⌝ }
     ensures values { λ r. ⌜ receivedValues r ≡ tabulate 9 (λ k. valueOf (forwardWord backward (getD (now (words .entry)) (at + k) 0))) ⌝ }
     ensures illegal { λ r. ⌜ r .illegal ≡ illegalMap (tabulate 9 (λ k. forwardWord backward (getD (now (words .entry)) (at + k) 0))) ⌝ }
 {
     let mut tracks: u64 = 0;
     let mut parity: u8 = 0;
-    let mut illegal: u16 = 0;
+    let mut seen: u16 = 0;
     let mut k = 0;
     while k < 9 {
-        let read = group_code::read(words[at + k], backward);
+        let word = words[at + k] as usize;
+        let read = table[word];
         parity = (read % 256) as u8;
         tracks = tracks + placed(k, parity);
-        illegal = illegal + ((read / 256) << k);
+        seen = seen | read;
         k += 1;
+    }
+    if seen < 256 {
+        return Received {
+            tracks,
+            parity,
+            illegal: 0,
+        };
     }
     Received {
         tracks,
         parity,
-        illegal,
+        illegal: illegal_tracks(words, at, backward, table),
     }
 }

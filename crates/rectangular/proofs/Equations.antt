@@ -10,12 +10,11 @@ use native.Mathlib.Decide.{decLt}
 use native.Mathlib.Omega.{arith}
 use borrow.Author.Tests.{lt-ltb, le-ltb}
 use lib.Bits.{xor-self}
-use lib.Dec.{ltb}
 use lib.ListN.{length, getD, List·getD-eq-default}
 use lib.Pow.{pow-pos}
 use lib.Seq.{ext-getD}
 use Rattle.indexed.specs.List.{tabulate}
-use Rattle.indexed.proofs.Tabulate.{length-tabulate, getD-tabulate, tabulate-same}
+use Rattle.indexed.proofs.Tabulate.{length-tabulate, getD-tabulate}
 use Rattle.register.specs.Shift.{shifts}
 use Rattle.register.specs.Sum.{xorSum}
 use Rattle.register.specs.Xor.{_⊕_}
@@ -189,23 +188,3 @@ group-of-list w f positive fits values long g =
 pub list-of-group : (w f : ℕ) → 0 < w → f < 2 ^ w → (info : List ℕ) → Below w info → IsGroup w f (λ k. getD (group w f info) k 0)
 list-of-group w f positive fits info below =
     group-ext w f (track w f info) _ (λ k h. sym (getD-group w f info k h)) (written-is-group w f positive fits info below)
-
--- only the first w − 1 information characters count
-pub group-front : (w f : ℕ) (info more : List ℕ) → ((k : ℕ) → k < w - 1 → getD info k 0 ≡ getD more k 0) → group w f info ≡ group w f more
-unfolding group track character check information
-group-front w f info more e = tabulate-same (suc w) _ _ (λ j h. same-track j)
-  where
-    same-information : (i : ℕ) → 0 < i → i < w → information w info i ≡ information w more i
-    same-information i p h = e (w - 1 - i) (omega arith)
-
-    same-row : (i : ℕ) → i < w → character w f info i ≡ character w f more i
-    same-row zero h =
-        sum-ext (w - 1) _ _ (λ i b. ap (shifts w f (suc i)) (same-information (suc i) (omega arith) (omega arith)))
-    same-row (suc i) h = same-information (suc i) (omega arith) h
-
-    same-column : (j : ℕ) → column w (character w f info) j ≡ column w (character w f more) j
-    same-column j = column-ext w (character w f info) (character w f more) same-row j
-
-    same-track : (j : ℕ) → track w f info j ≡ track w f more j
-    same-track j =
-        ap₂ (λ (z p : ℕ). cond (ltb j w) z p) (same-column j) (sum-ext w _ _ (λ k h. same-column k))

@@ -10,7 +10,9 @@ pub mod Correction
 pub mod Same
 pub mod Bytes
 pub mod Exchange
+pub mod Check
 pub mod Matrix
 pub mod Packed
+pub mod Gathered
 pub mod Corrected
 pub mod Judging

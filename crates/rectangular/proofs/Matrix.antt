@@ -15,13 +15,24 @@ use Rattle.register.proofs.Linear.{Linear, linear-expanded}
 use Rattle.register.proofs.Shift.{shifts-xor}
 use Rattle.register.proofs.Sum.{sum-ext, sum-xor}
 use Rattle.register.proofs.Xor.{digit-ind}
-use Rattle.tables.specs.Rule.{spreadOf}
 use Rattle.rectangular.specs.Correction.{erasure}
 use Rattle.rectangular.specs.Group.{column}
 use Rattle.rectangular.specs.Packed.{byteAt, bytesOf, parityByte, productOf}
 use Rattle.rectangular.proofs.Bytes.{byte-lt, byte-of, bytes-ext}
 
 -- ---- masks
+
+-- bit j of a byte, in bit 8j
+abbrev pub spreadOf : ℕ → ℕ
+spreadOf b =
+    b % 2
+    + b / 2 % 2 * 256
+    + b / 4 % 2 * 65536
+    + b / 8 % 2 * 16777216
+    + b / 16 % 2 * 4294967296
+    + b / 32 % 2 * 1099511627776
+    + b / 64 % 2 * 281474976710656
+    + b / 128 % 2 * 72057594037927936
 
 -- rows and columns of one byte exchanged: its bits spread. A test of every byte.
 spread-column : (x j : ℕ) → x < 256 → j < 8 → byteAt j (spreadOf x) ≡ column 8 (λ i. byteAt i x) j

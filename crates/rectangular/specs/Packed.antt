@@ -3,16 +3,13 @@
 -- Assumes nothing.
 use mathlib.Core.Bool.{cond}
 use mathlib.Core.List.{List, [], _∷_, _++_}
-use Prim.Native.Nat.{ℕ, _+_, _*_, _/_, _%_, _^_}
+use Prim.Native.Nat.{ℕ, _-_, _*_, _/_, _%_, _^_}
 use lib.Bits.{bitAnd}
 use lib.Dec.{ltb}
 use Rattle.indexed.specs.List.{tabulate}
 use Rattle.register.specs.Bit.{bit}
 use Rattle.register.specs.Sum.{xorSum}
 use Rattle.register.specs.Xor.{_⊕_}
-use Rattle.tables.specs.Rule.{spreadOf}
-use Rattle.rectangular.specs.Constants.{feedback}
-use Rattle.rectangular.specs.Group.{character}
 use Rattle.rectangular.specs.declared.group.Group.{Group}
 
 -- track byte j
@@ -31,13 +28,9 @@ placedAt track value = cond (ltb track 8) (value * 2 ^ (8 * track)) 0
 unfoldable pub valuesOf : Group → List ℕ
 valuesOf g = tabulate 8 (λ j. byteAt j (g .tracks)) ++ (g .parity ∷ [])
 
--- the sums that the code makes over B_1 to B_7 and then B_0, after k of them: of the characters' spread bits, B_i's in bit i of
--- each track byte, and of X^i B_i, not reduced
-unfoldable pub tracksTo : ℕ → List ℕ → ℕ
-tracksTo n info = xorSum n (λ k. spreadOf (character 8 feedback info ((k + 1) % 8)) * 2 ^ ((k + 1) % 8))
-
-unfoldable pub sumOf : ℕ → List ℕ → ℕ
-sumOf n info = xorSum n (λ k. character 8 feedback info ((k + 1) % 8) * 2 ^ ((k + 1) % 8))
+-- the information bytes of eight packed characters, B_7 first
+unfoldable pub informationAt : ℕ → List ℕ
+informationAt characters = tabulate 7 (λ k. byteAt (7 - k) characters)
 
 -- the exclusive-or of the eight track bytes
 unfoldable pub parityByte : ℕ → ℕ

@@ -1,12 +1,12 @@
 // One group of the nine-track code.
-use tables::reduced;
-use tables::spread_bits;
+use crate::sums::check_syndrome;
+use crate::transpose::transposed;
 ghost use mathlib.Core.Path.{_≡_};
-ghost use Prim.Native.Nat.{_+_, _%_, _<_, _≤_};
-ghost use lib.ListN.{length, getD};
+ghost use Prim.Native.Nat.{_<_, _≤_};
+ghost use lib.ListN.{length, getD, take};
 ghost use Rattle.rectangular.specs.Constants.{feedback};
 ghost use Rattle.rectangular.specs.Group as code;
-ghost use Rattle.rectangular.specs.Packed.{valuesOf, sumOf, tracksTo, parityByte, placedAt};
+ghost use Rattle.rectangular.specs.Packed.{byteAt, valuesOf, informationAt, parityByte, placedAt};
 
 // The track values of a group: tracks 0 to 7, track j in bits 8j to 8j + 7, and the parity track.
 pub struct Group {
@@ -40,37 +40,19 @@ pub fn placed(track: usize, value: u8) -> u64
     }
 }
 
-// The characters as they are added up: B1 to B7 out of the information bytes, the first of which is B7,
-// and then B0, which is reduced from the sum of the others' X^i B_i.
-fn character(info: &[u8], k: usize, sum: u16) -> u8
-    requires { ⌜ (7 ≤ length (now info)) × (k < 8) × (sum ≡ sumOf k (now info)) ⌝ }
-    ensures { λ r. ⌜ r ≡ code.character 8 feedback (now (info .entry)) ((k + 1) % 8) ⌝ }
+// The seven information bytes in front, the first of which is B7, as characters: B7 to B1 in bytes 7 to 1.
+pub fn information(bytes: &[u8]) -> u64
+    requires { ⌜ 7 ≤ length (now bytes) ⌝ }
+    ensures characters { λ r. ⌜ informationAt r ≡ take 7 (now (bytes .entry)) ⌝ }
+    ensures check { λ r. ⌜ byteAt 0 r ≡ 0 ⌝ }
 {
-    if k < 7 {
-        return info[6 - k];
-    }
-    let low = (sum % 256) as u8;
-    let high = (sum / 256) as u8;
-    low ^ reduced(high)
-}
-
-// Tracks 0 to 7 of the group of seven information bytes. The look-up has one place in the code, so that
-// it is compiled into the loop.
-fn tracks(info: &[u8]) -> u64
-    requires { ⌜ 7 ≤ length (now info) ⌝ }
-    ensures { λ r. ⌜ r ≡ tracksTo 8 (now (info .entry)) ⌝ }
-{
-    let mut tracks: u64 = 0;
-    let mut sum: u16 = 0;
+    let mut characters: u64 = 0;
     let mut k = 0;
-    while k < 8 {
-        let byte = character(info, k, sum);
-        let power = (k + 1) % 8;
-        tracks = tracks ^ (spread_bits(byte) << power);
-        sum = sum ^ ((byte as u16) << power);
+    while k < 7 {
+        characters = characters * 256 + bytes[k] as u64;
         k += 1;
     }
-    tracks
+    characters * 256
 }
 
 // The exclusive-or of the eight track bytes.
@@ -83,12 +65,14 @@ pub(crate) fn parity(tracks: u64) -> u8
     folded as u8
 }
 
-// The group that is written from seven information bytes, the first of which is B7.
-pub fn written(info: &[u8]) -> Group
-    requires { ⌜ 7 ≤ length (now info) ⌝ }
-    ensures { λ r. ⌜ valuesOf r ≡ code.group 8 feedback (now (info .entry)) ⌝ }
+// The group that is written from seven information bytes: the check byte B0 joins them (equation (23)), and
+// rows and columns are exchanged.
+pub fn written(information: u64) -> Group
+    requires { ⌜ byteAt 0 information ≡ 0 ⌝ }
+    ensures { λ r. ⌜ valuesOf r ≡ code.group 8 feedback (informationAt information) ⌝ }
 {
-    let tracks = tracks(info);
+    let check = check_syndrome(information);
+    let tracks = transposed(information + check as u64);
     Group {
         tracks,
         parity: parity(tracks),

@@ -4,8 +4,8 @@ use crate::group::parity;
 use crate::group::placed;
 use crate::product::backward_power;
 use crate::product::erasure_product;
-use crate::product::forward_power;
-use tables::reduced;
+use crate::sums::check_syndrome;
+use crate::sums::forward_power;
 ghost use mathlib.Core.Path.{_≡_};
 ghost use mathlib.Core.Logic.{_⊎_};
 ghost use mathlib.Core.List.{[], _∷_};
@@ -30,22 +30,6 @@ pub enum Judged {
     Corrected(Correction),
     ManyPointed,
     NoGroup,
-}
-
-// The check syndrome S2 (equation (14)): the sum of X^j Z_j, reduced once.
-fn check_syndrome(tracks: u64) -> u8
-    ensures { λ r. ⌜ r ≡ checkSyndrome 8 feedback (λ j. byteAt j tracks) ⌝ }
-{
-    let mut sum: u16 = 0;
-    let mut j: usize = 0;
-    while j < 8 {
-        let value = ((tracks >> (8 * j)) % 256) as u16;
-        sum = sum ^ (value << j);
-        j += 1;
-    }
-    let low = (sum % 256) as u8;
-    let high = (sum / 256) as u8;
-    low ^ reduced(high)
 }
 
 // The bit of a track that an error changes.
@@ -89,8 +73,7 @@ fn weight(track: usize, error: u8) -> u8
     }
 }
 
-// The first track in which an error S1 accounts for S2 (equations (16) and (17)), or 9. In a group
-// without error it is track 0, at once.
+// The first track in which an error S1 accounts for S2 (equations (16) and (17)), or 9.
 fn located(s1: u8, s2: u8) -> usize
     ensures { λ r. ⌜ r ≡ firstBelow 9 (λ k. eqb (weighed 8 feedback k s1) s2) ⌝ }
 {
@@ -104,12 +87,17 @@ fn located(s1: u8, s2: u8) -> usize
     9
 }
 
-// No track is pointed: one may be wrong.
+// No track is pointed: one may be wrong. Most groups have no error, and that is seen first.
 fn unpointed(group: Group, s1: u8, s2: u8) -> Judged
     requires { ⌜ (s1 ≡ paritySyndrome 8 (λ k. getD (valuesOf group) k 0)) × (s2 ≡ checkSyndrome 8 feedback (λ k. getD (valuesOf group) k 0)) ⌝ }
     ensures told { λ r. ⌜ toldJudged r ≡ oneTrack 8 feedback (λ k. getD (valuesOf group) k 0) (below 9) ⌝ }
     ensures changed { λ r. ⌜ toldChanged r ≡ changedBy (valuesOf group) (toldJudged r) ⌝ }
 {
+    if s1 == 0 {
+        if s2 == 0 {
+            return Judged::Corrected(corrected(group, 0, s1, 8, 0));
+        }
+    }
     let track = located(s1, s2);
     if track < 9 {
         return Judged::Corrected(corrected(group, track, s1, 8, 0));

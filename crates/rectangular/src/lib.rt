@@ -2,6 +2,7 @@
 pub mod group;
 pub mod judge;
 mod product;
+mod sums;
 pub mod transpose;
 
 ghost use mathlib.Core.Path.{_≡_};

@@ -3,7 +3,6 @@
 // is the product with 2^k, in byte k.
 use crate::group::parity;
 use crate::transpose::transposed;
-use tables::reduced;
 ghost use mathlib.Core.Path.{_≡_};
 ghost use Prim.Native.Nat.{_-_, _^_, _<_, _≤_};
 ghost use Rattle.indexed.specs.List.{tabulate};
@@ -68,15 +67,4 @@ pub(crate) fn backward_power(i: usize, x: u8) -> u8
     ensures { λ r. ⌜ r ≡ shifts 8 feedback (exponent - i) x ⌝ }
 {
     applied(backward_columns(i), x)
-}
-
-// T^i times x, of equation (14): X^i x, of which the part above eight bits is reduced.
-pub(crate) fn forward_power(i: usize, x: u8) -> u8
-    requires { ⌜ i < 8 ⌝ }
-    ensures { λ r. ⌜ r ≡ shifts 8 feedback i x ⌝ }
-{
-    let moved = (x as u16) << i;
-    let low = (moved % 256) as u8;
-    let high = (moved / 256) as u8;
-    low ^ reduced(high)
 }

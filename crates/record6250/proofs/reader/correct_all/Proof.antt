@@ -28,25 +28,25 @@ use Rattle.record6250.proofs.reader.correct_all.Statement.{statement}
 use Rattle.record6250.proofs.reader.correct_all.Tie as tie
 
 abbrev Inv-loop : tie.InvT-loop
-Inv-loop words maps backward body₀ changes₀ g₀ body changes g = (g ≤ length maps) × AllFit backward words maps g × (length body ≡ length body₀)
+Inv-loop words maps backward table body₀ changes₀ g₀ body changes g = (g ≤ length maps) × AllFit backward words maps g × (length body ≡ length body₀)
     × (body ≡ stored 7 g (λ g. rightBytes (judgement backward words maps g)) body₀) × (changes ≡ changedTo backward words maps g)
 
 abbrev μ-loop : tie.MeasureT-loop
-μ-loop words maps backward body₀ changes₀ g₀ body changes g = length maps - g
+μ-loop words maps backward table body₀ changes₀ g₀ body changes g = length maps - g
 
 loop-holds : tie.Need-loop-holds Inv-loop μ-loop
 unfolding blocks changedTo total
 loop-holds c = (search needs, λ j h. absurd (not-suc-le-zero h), refl, refl, refl)
 
 judge-group-requires : tie.Need-judge-group-requires Inv-loop μ-loop
-judge-group-requires c κs = (c .before .before .before .before .before .pre .0, c .loop-test .taken)
+judge-group-requires c κs = let start = c .before .before .before .before .before .before in (start .pre .0, c .loop-test .taken, start .pre .2)
 
 enum-known-right : tie.Need-enum-known-right Inv-loop μ-loop
 enum-known-right c = search needs
 
 mul-at : tie.Need-mul-at Inv-loop μ-loop
 mul-at c =
-    let start = c .before .before .before .before .before .before .before .before .before in
+    let start = c .before .before .before .before .before .before .before .before .before .before in
     let words = now (start .args .words) in
     let maps = now (start .args .maps) in
     let b = start .args .backward in
@@ -55,7 +55,7 @@ mul-at c =
 
 sub-unpack : tie.Need-sub-unpack Inv-loop μ-loop
 sub-unpack c =
-    let start = c .before .before .before .before .before .before .before .before .before in
+    let start = c .before .before .before .before .before .before .before .before .before .before in
     let words = now (start .args .words) in
     let maps = now (start .args .maps) in
     let b = start .args .backward in
@@ -64,7 +64,7 @@ sub-unpack c =
 
 part-unpack-start : tie.Need-part-unpack-start Inv-loop μ-loop
 part-unpack-start c =
-    let start = c .before .before .before .before .before .before .before .before .before in
+    let start = c .before .before .before .before .before .before .before .before .before .before in
     let words = now (start .args .words) in
     let maps = now (start .args .maps) in
     let b = start .args .backward in
@@ -73,7 +73,7 @@ part-unpack-start c =
 
 part-unpack-end : tie.Need-part-unpack-end Inv-loop μ-loop
 part-unpack-end c =
-    let start = c .before .before .before .before .before .before .before .before .before in
+    let start = c .before .before .before .before .before .before .before .before .before .before in
     let words = now (start .args .words) in
     let maps = now (start .args .maps) in
     let b = start .args .backward in
@@ -82,7 +82,7 @@ part-unpack-end c =
 
 unpack-requires : tie.Need-unpack-requires Inv-loop μ-loop
 unpack-requires c κs =
-    let start = c .before .before .before .before .before .before .before .before .before .before in
+    let start = c .before .before .before .before .before .before .before .before .before .before .before in
     let words = now (start .args .words) in
     let maps = now (start .args .maps) in
     let b = start .args .backward in
@@ -92,7 +92,7 @@ unpack-requires c κs =
 
 cast-changes : tie.Need-cast-changes Inv-loop μ-loop
 cast-changes c =
-    let start = c .before .before .before .before .before .before .before .before .before .before .before .before .before .before in
+    let start = c .before .before .before .before .before .before .before .before .before .before .before .before .before .before .before in
     let words = now (start .args .words) in
     let maps = now (start .args .maps) in
     let b = start .args .backward in
@@ -104,7 +104,7 @@ cast-changes c =
 
 add-changes : tie.Need-add-changes Inv-loop μ-loop
 add-changes c =
-    let start = c .before .before .before .before .before .before .before .before .before .before .before .before .before .before in
+    let start = c .before .before .before .before .before .before .before .before .before .before .before .before .before .before .before in
     let words = now (start .args .words) in
     let maps = now (start .args .maps) in
     let b = start .args .backward in
@@ -130,7 +130,7 @@ loop-less c = search needs
 loop-again : tie.Need-loop-again Inv-loop μ-loop
 unfolding isCorrected
 loop-again c =
-    let start = c .before .before .before .before .before .before .before .before .before .before .before .before .before .before in
+    let start = c .before .before .before .before .before .before .before .before .before .before .before .before .before .before .before in
     let words = now (start .args .words) in
     let maps = now (start .args .maps) in
     let b = start .args .backward in
@@ -156,7 +156,7 @@ same-length c = c .before .before .before .before .loop .inv .2
 returns : tie.Need-returns Inv-loop μ-loop
 unfolding isCorrected reasonOf
 returns c =
-    let start = c .before .before .before .before .before .before .before .before in
+    let start = c .before .before .before .before .before .before .before .before .before in
     let words = now (start .args .words) in
     let maps = now (start .args .maps) in
     let b = start .args .backward in
@@ -176,7 +176,7 @@ same-length-2 c = c .before .before .before .before .loop .inv .2
 returns-2 : tie.Need-returns-2 Inv-loop μ-loop
 unfolding isCorrected reasonOf
 returns-2 c =
-    let start = c .before .before .before .before .before .before .before .before in
+    let start = c .before .before .before .before .before .before .before .before .before in
     let words = now (start .args .words) in
     let maps = now (start .args .maps) in
     let b = start .args .backward in
@@ -193,7 +193,7 @@ same-length-3 c = c .before .loop .inv .2
 returns-3 : tie.Need-returns-3 Inv-loop μ-loop
 unfolding readBody changes changedTo
 returns-3 c =
-    let start = c .before .before .before .before .before .args in
+    let start = c .before .before .before .before .before .before .args in
     let words = now (start .words) in
     let maps = now (start .maps) in
     let b = start .backward in

@@ -6,7 +6,7 @@ use Prim.Native.Nat.{ℕ}
 use native.Mathlib.Omega.{arith}
 use denote.Ref.{now}
 use lib.ListN.{drop}
-use Rattle.answer.specs.Answer.{delivered, outputAfter}
+use Rattle.answer.specs.Answer.{outputAfter}
 use Rattle.record6250.proofs.Delivery.{bytes-long, data-is, data-long, suits-answer, padding-answer, last-six}
 use borrow.Author.Needs.{needs}
 use Rattle.record6250.proofs.reader.delivered.Statement.{statement}

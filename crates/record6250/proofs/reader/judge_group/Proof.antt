@@ -8,12 +8,12 @@ use denote.Ref.{now}
 use lib.Bits.{bitOr, or-lt}
 use lib.ListN.{length, getD}
 use Rattle.register.proofs.Ones.{tabulated-lt}
+use Rattle.group_code.proofs.Words.{illegality-lt}
 use Rattle.rectangular.specs.Correction.{corrected}
 use Rattle.rectangular.specs.Judged.{correctedValues, toldJudged, toldChanged, changedBy}
 use Rattle.rectangular.specs.declared.group.Group.{Group}
 use Rattle.record6250.specs.Group.{illegalMap, isCorrected}
 use Rattle.record6250.specs.Received.{receivedValues}
-use Rattle.record6250.proofs.FittingGroup.{illegality-lt}
 use Rattle.record6250.proofs.GroupJudged.{lent-below, lent-group, lent-map, value-at, judgement-told, changed-told}
 use Rattle.record6250.proofs.Picture.{turned-lt}
 use Rattle.record6250.proofs.Reading.{words-long, map-below}
@@ -26,7 +26,7 @@ lent-place-requires c κs = search needs
 
 mul-receive : tie.Need-mul-receive
 mul-receive c =
-    let start = c .before .before .before in
+    let start = c .before .before .before .before in
     let words = now (start .args .words) in
     let maps = now (start .args .maps) in
     let within : c .lent-place .result < length maps =
@@ -35,18 +35,19 @@ mul-receive c =
 
 receive-requires : tie.Need-receive-requires
 receive-requires c κs =
-    let start = c .before .before .before in
+    let start = c .before .before .before .before in
     let words = now (start .args .words) in
     let maps = now (start .args .maps) in
     let within : c .lent-place .result < length maps =
     rw (c .lent-place .ensures) (turned-lt (start .args .backward) (length maps) (start .args .g) (start .pre .1)) in (
       omega (arith, words-long (start .args .backward) words maps (start .pre .0)),
       lent-below (start .args .backward) words maps (start .pre .0),
+      start .pre .2,
     )
 
 mul-judge : tie.Need-mul-judge
 mul-judge c =
-    let start = c .before .before .before .before in
+    let start = c .before .before .before .before .before in
     let words = now (start .args .words) in
     let maps = now (start .args .maps) in
     let within : c .before .lent-place .result < length maps =
@@ -55,7 +56,7 @@ mul-judge c =
 
 shared-slice-read-judge : tie.Need-shared-slice-read-judge
 shared-slice-read-judge c =
-    let start = c .before .before .before .before .before in
+    let start = c .before .before .before .before .before .before in
     let words = now (start .args .words) in
     let maps = now (start .args .maps) in
     let within : c .before .before .lent-place .result < length maps =
@@ -65,7 +66,7 @@ shared-slice-read-judge c =
 judge-requires : tie.Need-judge-requires
 unfolding illegalMap
 judge-requires c κs =
-    let start = c .before .before .before .before .before .before in
+    let start = c .before .before .before .before .before .before .before in
     let words = now (start .args .words) in
     let maps = now (start .args .maps) in
     let place = c .before .before .before .lent-place in
@@ -87,7 +88,7 @@ enum-told-2 c = search needs
 returns : tie.Need-returns
 unfolding correctedValues receivedValues changedBy
 returns c =
-    let start = c .before .before .before .before .before .before .before .before .before .before .before .before in
+    let start = c .before .before .before .before .before .before .before .before .before .before .before .before .before in
     let words = now (start .args .words) in
     let maps = now (start .args .maps) in
     let b = start .args .backward in
@@ -111,7 +112,7 @@ returns c =
 returns-2 : tie.Need-returns-2
 unfolding receivedValues isCorrected
 returns-2 c =
-    let start = c .before .before .before .before .before .before .before .before .before in
+    let start = c .before .before .before .before .before .before .before .before .before .before in
     let words = now (start .args .words) in
     let maps = now (start .args .maps) in
     let b = start .args .backward in
@@ -126,7 +127,7 @@ returns-2 c =
 returns-3 : tie.Need-returns-3
 unfolding receivedValues isCorrected
 returns-3 c =
-    let start = c .before .before .before .before .before .before .before .before .before in
+    let start = c .before .before .before .before .before .before .before .before .before .before in
     let words = now (start .args .words) in
     let maps = now (start .args .maps) in
     let b = start .args .backward in

@@ -33,7 +33,7 @@ refused-requires c κs = search needs
 returns : tie.Need-returns
 unfolding outputAfter
 returns c =
-    let start = c .before .before .before .before .before .before in
+    let start = c .before .before .before .before .before .before .before in
     let words = now (start .args .words) in
     let maps = now (start .args .maps) in
     let b = start .args .backward in
@@ -47,13 +47,13 @@ returns c =
 mul-if2 : tie.Need-mul-if2
 mul-if2 c =
     let suits = sym (c .before .lengths-suit .ensures) ∙ not-false (c .before .lengths-suit .result) (c .if1 .left) in
-    let told = lengths-told (length (now (c .before .before .before .before .before .args .words))) (length (now (c .before .before .before .before .before .args .maps))) suits in
+    let told = lengths-told (length (now (c .before .before .before .before .before .before .args .words))) (length (now (c .before .before .before .before .before .before .args .maps))) suits in
     omega (arith, told .1)
 
 sub-if2 : tie.Need-sub-if2
 sub-if2 c =
     let suits = sym (c .before .lengths-suit .ensures) ∙ not-false (c .before .lengths-suit .result) (c .if1 .left) in
-    let told = lengths-told (length (now (c .before .before .before .before .before .args .words))) (length (now (c .before .before .before .before .before .args .maps))) suits in
+    let told = lengths-told (length (now (c .before .before .before .before .before .before .args .words))) (length (now (c .before .before .before .before .before .before .args .maps))) suits in
     omega (arith, told .0)
 
 refused-requires-2 : tie.Need-refused-requires-2
@@ -62,7 +62,7 @@ refused-requires-2 c κs = search needs
 returns-2 : tie.Need-returns-2
 unfolding outputAfter
 returns-2 c =
-    let start = c .before .before .before .before .before .before .before in
+    let start = c .before .before .before .before .before .before .before .before in
     let words = now (start .args .words) in
     let maps = now (start .args .maps) in
     let b = start .args .backward in
@@ -77,7 +77,7 @@ returns-2 c =
 first-stray-requires : tie.Need-first-stray-requires
 first-stray-requires c κs =
     let suits = sym (c .before .before .lengths-suit .ensures) ∙ not-false (c .before .before .lengths-suit .result) (c .before .if1 .left) in
-    let told = lengths-told (length (now (c .before .before .before .before .before .before .args .words))) (length (now (c .before .before .before .before .before .before .args .maps))) suits in
+    let told = lengths-told (length (now (c .before .before .before .before .before .before .before .args .words))) (length (now (c .before .before .before .before .before .before .before .args .maps))) suits in
     told .2
 
 refused-requires-3 : tie.Need-refused-requires-3
@@ -86,7 +86,7 @@ refused-requires-3 c κs = search needs
 returns-3 : tie.Need-returns-3
 unfolding outputAfter
 returns-3 c =
-    let start = c .before .before .before .before .before .before .before .before .before in
+    let start = c .before .before .before .before .before .before .before .before .before .before in
     let words = now (start .args .words) in
     let maps = now (start .args .maps) in
     let b = start .args .backward in
@@ -103,20 +103,20 @@ slice-aggregate-read-within c = search needs
 
 read-within-requires : tie.Need-read-within-requires
 read-within-requires c κs =
-    let start = c .before .before .before .before .before .before .before .before .before .before .before in
+    let start = c .before .before .before .before .before .before .before .before .before .before .before .before in
     let words = now (start .args .words) in
     let maps = now (start .args .maps) in
     let suits = sym (c .before .before .before .before .before .before .before .lengths-suit .ensures) ∙ not-false (c .before .before .before .before .before .before .before .lengths-suit .result) (c .before .before .before .before .before .before .if1 .left) in
     let told = lengths-told (length words) (length maps) suits in
     let none = rw (c .before .before .before .before .first-stray .ensures) at (c .before .before .before .if3 .left) in
-    (passed (start .args .backward) words maps suits none, omega (arith, told .1, c .before .before .if4 .taken), omega (arith, c .before .before .before .before .before .if2 .left))
+    (passed (start .args .backward) words maps suits none, omega (arith, told .1, c .before .before .if4 .taken), omega (arith, c .before .before .before .before .before .if2 .left), start .pre)
 
 same-length : tie.Need-same-length
 same-length c = search needs
 
 returns-4 : tie.Need-returns-4
 returns-4 c =
-    let start = c .before .before .before .before .before .before .before .before .before .before .before .before .before .before .before in
+    let start = c .before .before .before .before .before .before .before .before .before .before .before .before .before .before .before .before in
     let words = now (start .args .words) in
     let maps = now (start .args .maps) in
     let b = start .args .backward in
@@ -131,20 +131,20 @@ slice-aggregate-read-within-2 c = search needs
 
 read-within-requires-2 : tie.Need-read-within-requires-2
 read-within-requires-2 c κs =
-    let start = c .before .before .before .before .before .before .before .before .before .before .before in
+    let start = c .before .before .before .before .before .before .before .before .before .before .before .before in
     let words = now (start .args .words) in
     let maps = now (start .args .maps) in
     let suits = sym (c .before .before .before .before .before .before .before .lengths-suit .ensures) ∙ not-false (c .before .before .before .before .before .before .before .lengths-suit .result) (c .before .before .before .before .before .before .if1 .left) in
     let told = lengths-told (length words) (length maps) suits in
     let none = rw (c .before .before .before .before .first-stray .ensures) at (c .before .before .before .if3 .left) in
-    (passed (start .args .backward) words maps suits none, omega (arith, told .1, c .before .before .if4 .left), omega (arith, c .before .before .before .before .before .if2 .left))
+    (passed (start .args .backward) words maps suits none, omega (arith, told .1, c .before .before .if4 .left), omega (arith, c .before .before .before .before .before .if2 .left), start .pre)
 
 same-length-2 : tie.Need-same-length-2
 same-length-2 c = search needs
 
 returns-5 : tie.Need-returns-5
 returns-5 c =
-    let start = c .before .before .before .before .before .before .before .before .before .before .before .before .before .before .before in
+    let start = c .before .before .before .before .before .before .before .before .before .before .before .before .before .before .before .before in
     let words = now (start .args .words) in
     let maps = now (start .args .maps) in
     let b = start .args .backward in

@@ -26,7 +26,7 @@ mul-delivered c = search needs
 
 delivered-requires : tie.Need-delivered-requires
 delivered-requires c κs =
-    let start = c .before .before .before .before .before .before .before .before .before .before .before .before .before in
+    let start = c .before .before .before .before .before .before .before .before .before .before .before .before .before .before in
     let words = now (start .args .words) in
     let maps = now (start .args .maps) in
     let b = start .args .backward in
@@ -49,7 +49,7 @@ same-length-2 c = search needs
 returns : tie.Need-returns
 unfolding readData
 returns c =
-    let start = c .before .before .before .before .before .before .before .before .before .before .before .before .before .before .before .before in
+    let start = c .before .before .before .before .before .before .before .before .before .before .before .before .before .before .before .before .before in
     let words = now (start .args .words) in
     let maps = now (start .args .maps) in
     let b = start .args .backward in
@@ -67,7 +67,7 @@ same-length-3 c = search needs
 returns-2 : tie.Need-returns-2
 unfolding outputAfter
 returns-2 c =
-    let start = c .before .before .before .before .before .before .before .before .before .before .before in
+    let start = c .before .before .before .before .before .before .before .before .before .before .before .before in
     let words = now (start .args .words) in
     let maps = now (start .args .maps) in
     (scan-unfit (start .args .backward) words maps _ _ (sym (ap toldScan (c .before .refusal .given .1)) ∙ c .before .before .before .before .before .correct-all .ensures .0), refl)

@@ -4,9 +4,8 @@ use mathlib.Core.Path.{_≡_, ap, _∙_}
 use Prim.Native.Nat.{ℕ, _*_, _^_, _<_}
 use borrow.Author.Needs.{needs}
 use lib.Bits.{bitAnd}
-use Rattle.tables.specs.Rule.{spreadOf}
 use Rattle.rectangular.specs.Packed.{parityByte}
-use Rattle.rectangular.proofs.Matrix.{transposed-byte, masks-fit, masks-pick}
+use Rattle.rectangular.proofs.Matrix.{spreadOf, transposed-byte, masks-fit, masks-pick}
 use Rattle.rectangular.proofs.product.applied.Statement.{statement}
 use Rattle.rectangular.proofs.product.applied.Tie as tie
 
