@@ -1,6 +1,7 @@
 # make run    build the proved library and show it at work on an example
 # make test   the gate: every proof, every must-fail edit, every test
-.PHONY: run test
+# make bench  how fast every call is, beside Rust written for speed and beside memcpy
+.PHONY: run test bench
 
 ARCHIVE := target/staticlib/librindthok.a
 SOURCES := $(shell find crates -name '*.rt' -o -name '*.antt') crates.txt
@@ -21,3 +22,7 @@ $(ARCHIVE): $(SOURCES)
 
 target/bin/listing: $(SOURCES)
 	rt check listing
+
+# How fast every call is, beside an implementation in Rust and beside memcpy; draws docs/benchmark.svg.
+bench: $(ARCHIVE)
+	cargo run --release --offline --quiet --manifest-path benchmark/Cargo.toml -- docs/benchmark.svg

@@ -1,55 +1,6 @@
-//! The proved archive, as include/rindthok.h declares it, behind safe functions.
+//! The proved archive behind safe functions.
 
-extern "C" {
-    fn rindthok_words_to_physical(source: *const u16, sources: usize, target: *mut u16, targets: usize, place: *mut usize) -> u16;
-    fn rindthok_words_to_algebraic(source: *const u16, sources: usize, target: *mut u16, targets: usize, place: *mut usize) -> u16;
-    fn rindthok_write6250(bytes: *const u8, count: usize, words: *mut u16, space: usize, groups: *mut usize, place: *mut usize) -> u16;
-    fn rindthok_read6250_forward(
-        words: *const u16,
-        word_count: usize,
-        maps: *const u16,
-        map_count: usize,
-        output: *mut u8,
-        output_space: usize,
-        size: *mut usize,
-        changes: *mut usize,
-        place: *mut usize,
-    ) -> u16;
-    fn rindthok_read6250_backward(
-        words: *const u16,
-        word_count: usize,
-        maps: *const u16,
-        map_count: usize,
-        output: *mut u8,
-        output_space: usize,
-        size: *mut usize,
-        changes: *mut usize,
-        place: *mut usize,
-    ) -> u16;
-    fn rindthok_write800(bytes: *const u8, byte_count: usize, characters: *mut u16, character_space: usize, count: *mut usize, place: *mut usize) -> u16;
-    fn rindthok_read800_forward(
-        characters: *const u16,
-        character_count: usize,
-        output: *mut u8,
-        output_space: usize,
-        size: *mut usize,
-        track: *mut usize,
-        changes: *mut usize,
-        place: *mut usize,
-    ) -> u16;
-    fn rindthok_read800_backward(
-        characters: *const u16,
-        character_count: usize,
-        output: *mut u8,
-        output_space: usize,
-        size: *mut usize,
-        track: *mut usize,
-        changes: *mut usize,
-        place: *mut usize,
-    ) -> u16;
-    fn rindthok_map_to_physical(map: u16, moved: *mut u16, place: *mut usize) -> u16;
-    fn rindthok_map_to_algebraic(map: u16, moved: *mut u16, place: *mut usize) -> u16;
-}
+use crate::abi::*;
 
 /// What a call answers: document 01's delivery, or its refusal with number and place.
 #[derive(Clone, Debug, PartialEq, Eq)]

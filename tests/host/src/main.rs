@@ -1,6 +1,7 @@
 //! Tests of the proved archive from outside: the outside cases of tests/vectors, and comparisons
 //! with implementations that share nothing with the library. The last line is `N passed, M failed`.
 
+mod abi;
 mod bench;
 mod damage6250;
 mod damage800;

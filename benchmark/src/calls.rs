@@ -1,0 +1,54 @@
+//! The library's calls on slices, with answers in the form of the Rust implementations.
+
+use crate::abi::*;
+use crate::Answer;
+
+fn answer(status: u16, place: usize, figures: [usize; 3]) -> Answer {
+    match status {
+        0 => Answer::Delivered(figures),
+        number => Answer::Refused(number, place),
+    }
+}
+
+pub fn write6250(bytes: &[u8], words: &mut [u16]) -> Answer {
+    let (mut groups, mut place) = (0, 0);
+    let status = unsafe { rindthok_write6250(bytes.as_ptr(), bytes.len(), words.as_mut_ptr(), words.len(), &mut groups, &mut place) };
+    answer(status, place, [groups, 0, 0])
+}
+
+pub fn read6250<const BACKWARD: bool>(words: &[u16], maps: &[u16], output: &mut [u8]) -> Answer {
+    let (mut size, mut changes, mut place) = (0, 0, 0);
+    let call = if BACKWARD { rindthok_read6250_backward } else { rindthok_read6250_forward };
+    let (from, pointers, to) = (words.as_ptr(), maps.as_ptr(), output.as_mut_ptr());
+    let status = unsafe { call(from, words.len(), pointers, maps.len(), to, output.len(), &mut size, &mut changes, &mut place) };
+    answer(status, place, [size, changes, 0])
+}
+
+pub fn write800(bytes: &[u8], characters: &mut [u16]) -> Answer {
+    let (mut count, mut place) = (0, 0);
+    let (from, to) = (bytes.as_ptr(), characters.as_mut_ptr());
+    let status = unsafe { rindthok_write800(from, bytes.len(), to, characters.len(), &mut count, &mut place) };
+    answer(status, place, [count, 0, 0])
+}
+
+pub fn read800<const BACKWARD: bool>(characters: &[u16], output: &mut [u8]) -> Answer {
+    let (mut size, mut track, mut changes, mut place) = (0, 0, 0, 0);
+    let call = if BACKWARD { rindthok_read800_backward } else { rindthok_read800_forward };
+    let (from, to) = (characters.as_ptr(), output.as_mut_ptr());
+    let status = unsafe { call(from, characters.len(), to, output.len(), &mut size, &mut track, &mut changes, &mut place) };
+    answer(status, place, [size, track, changes])
+}
+
+pub fn words_to_physical(source: &[u16], target: &mut [u16]) -> Answer {
+    let mut place = 0;
+    let (from, to) = (source.as_ptr(), target.as_mut_ptr());
+    let status = unsafe { rindthok_words_to_physical(from, source.len(), to, target.len(), &mut place) };
+    answer(status, place, [0; 3])
+}
+
+pub fn words_to_algebraic(source: &[u16], target: &mut [u16]) -> Answer {
+    let mut place = 0;
+    let (from, to) = (source.as_ptr(), target.as_mut_ptr());
+    let status = unsafe { rindthok_words_to_algebraic(from, source.len(), to, target.len(), &mut place) };
+    answer(status, place, [0; 3])
+}

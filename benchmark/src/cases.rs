@@ -1,0 +1,161 @@
+//! What is measured: records of two lengths at each density, clean and damaged, forward and backward.
+
+use crate::{calls, fast6250, fast800, fast_order, Answer};
+
+/// A seeded generator (splitmix64), so that every run measures the same records.
+pub struct Seeded(pub u64);
+
+impl Seeded {
+    pub fn next(&mut self) -> u64 {
+        self.0 = self.0.wrapping_add(0x9E37_79B9_7F4A_7C15);
+        let mut z = self.0;
+        z = (z ^ (z >> 30)).wrapping_mul(0xBF58_476D_1CE4_E5B9);
+        z = (z ^ (z >> 27)).wrapping_mul(0x94D0_49BB_1331_11EB);
+        z ^ (z >> 31)
+    }
+
+    pub fn below(&mut self, bound: usize) -> usize {
+        (self.next() % bound as u64) as usize
+    }
+}
+
+#[derive(Clone, Copy, PartialEq)]
+pub enum Damage {
+    Clean,
+    /// One track that nobody points is wrong in every group, or in half of the characters.
+    OneTrack,
+    /// Two tracks that the drive points are wrong in every group.
+    TwoPointed,
+}
+
+#[derive(Clone, Copy, PartialEq)]
+pub enum Call {
+    Write6250,
+    Read6250 { backward: bool, damage: Damage },
+    Write800,
+    Read800 { backward: bool, damage: Damage },
+    Order { physical: bool },
+}
+
+/// One record: its data, what lies on tape, and the maps.
+pub struct Record {
+    pub data: Vec<u8>,
+    pub tape: Vec<u16>,
+    pub maps: Vec<u16>,
+}
+
+fn data(seeded: &mut Seeded, length: usize) -> Vec<u8> {
+    (0..length).map(|_| seeded.next() as u8).collect()
+}
+
+fn other_word(seeded: &mut Seeded, word: u16) -> u16 {
+    loop {
+        let byte = [seeded.next() as u8];
+        let mut words = [0; 9];
+        fast6250::write(&byte, &mut words);
+        if words[1] != word {
+            return words[1];
+        }
+    }
+}
+
+fn record6250(seeded: &mut Seeded, length: usize, backward: bool, damage: Damage) -> Record {
+    let data = data(seeded, length);
+    let groups = length / 7 + 1;
+    let (mut tape, mut maps) = (vec![0; 9 * groups], vec![0; groups]);
+    fast6250::write(&data, &mut tape);
+    let (first, second) = (seeded.below(9), seeded.below(8));
+    let second = if second < first { second } else { second + 1 };
+    for g in 0..groups {
+        let tracks: &[usize] = match damage {
+            Damage::Clean => &[],
+            Damage::OneTrack => &[first],
+            Damage::TwoPointed => &[first, second],
+        };
+        for &track in tracks {
+            tape[9 * g + track] = other_word(seeded, tape[9 * g + track]);
+            maps[g] |= if damage == Damage::TwoPointed { 1 << track } else { 0 };
+        }
+    }
+    if backward {
+        maps.reverse();
+        tape = tape.chunks(9).rev().flatten().map(|word| word.reverse_bits() >> 6).collect();
+    }
+    Record { data, tape, maps }
+}
+
+fn record800(seeded: &mut Seeded, length: usize, backward: bool, damage: Damage) -> Record {
+    let data = data(seeded, length);
+    let mut tape = vec![0; length + 2];
+    fast800::write(&data, &mut tape);
+    if damage == Damage::OneTrack {
+        let track = seeded.below(9);
+        for character in &mut tape {
+            *character ^= (seeded.next() as u16 & 1) << track;
+        }
+    }
+    if backward {
+        tape.reverse();
+    }
+    Record { data, tape, maps: vec![] }
+}
+
+impl Call {
+    pub fn record(self, seeded: &mut Seeded, length: usize) -> Record {
+        match self {
+            Call::Write6250 => record6250(seeded, length, false, Damage::Clean),
+            Call::Read6250 { backward, damage } => record6250(seeded, length, backward, damage),
+            Call::Write800 => record800(seeded, length, false, Damage::Clean),
+            Call::Read800 { backward, damage } => record800(seeded, length, backward, damage),
+            Call::Order { .. } => Record { data: vec![], tape: (0..9).map(|_| seeded.below(1024) as u16).collect(), maps: vec![] },
+        }
+    }
+
+    pub fn name(self) -> String {
+        let read = |density, backward, damage| {
+            let direction = if backward { "backward" } else { "forward" };
+            let damage = match damage {
+                Damage::Clean => "clean",
+                Damage::OneTrack => "one track wrong",
+                Damage::TwoPointed => "two pointed",
+            };
+            format!("read {density} {direction}, {damage}")
+        };
+        match self {
+            Call::Write6250 => "write 6250".to_string(),
+            Call::Write800 => "write 800".to_string(),
+            Call::Read6250 { backward, damage } => read(6250, backward, damage),
+            Call::Read800 { backward, damage } => read(800, backward, damage),
+            Call::Order { physical: true } => "nine words to head order".to_string(),
+            Call::Order { physical: false } => "nine words to code order".to_string(),
+        }
+    }
+
+    /// The library's call, on a record, into the outputs.
+    pub fn library(self, record: &Record, words: &mut [u16], bytes: &mut [u8]) -> Answer {
+        match self {
+            Call::Write6250 => calls::write6250(&record.data, words),
+            Call::Read6250 { backward: false, .. } => calls::read6250::<false>(&record.tape, &record.maps, bytes),
+            Call::Read6250 { backward: true, .. } => calls::read6250::<true>(&record.tape, &record.maps, bytes),
+            Call::Write800 => calls::write800(&record.data, words),
+            Call::Read800 { backward: false, .. } => calls::read800::<false>(&record.tape, bytes),
+            Call::Read800 { backward: true, .. } => calls::read800::<true>(&record.tape, bytes),
+            Call::Order { physical: true } => calls::words_to_physical(&record.tape, words),
+            Call::Order { physical: false } => calls::words_to_algebraic(&record.tape, words),
+        }
+    }
+
+    /// The same by the Rust implementation.
+    pub fn fast(self, record: &Record, words: &mut [u16], bytes: &mut [u8]) -> Answer {
+        match self {
+            Call::Write6250 => fast6250::write(&record.data, words),
+            Call::Read6250 { backward: false, .. } => fast6250::read::<false>(&record.tape, &record.maps, bytes),
+            Call::Read6250 { backward: true, .. } => fast6250::read::<true>(&record.tape, &record.maps, bytes),
+            Call::Write800 => fast800::write(&record.data, words),
+            Call::Read800 { backward: false, .. } => fast800::read::<false>(&record.tape, bytes),
+            Call::Read800 { backward: true, .. } => fast800::read::<true>(&record.tape, bytes),
+            Call::Order { physical: true } => fast_order::to_physical(&record.tape, words),
+            Call::Order { physical: false } => fast_order::to_algebraic(&record.tape, words),
+        }
+    }
+}

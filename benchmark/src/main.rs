@@ -1,0 +1,146 @@
+//! How fast the proved library is, beside implementations in Rust that were written for speed and beside memcpy,
+//! all in one run and interleaved: the best of many rounds over the same records. Output buffers are not cleared
+//! between calls. Prints the tables of docs/BENCHMARK.md and, given a path, draws the picture there.
+
+#[path = "../../tests/host/src/abi.rs"]
+mod abi;
+mod calls;
+mod cases;
+mod fast6250;
+mod fast800;
+mod fast_order;
+mod picture;
+
+use cases::{Call, Damage, Record, Seeded};
+use std::hint::black_box;
+use std::time::Instant;
+
+/// What a call answers: its figures, or the refusal with number and place.
+#[derive(Clone, Copy, Debug, PartialEq)]
+pub enum Answer {
+    Delivered([usize; 3]),
+    Refused(u16, usize),
+}
+
+/// So many records are read one after another, so that no branch is learned by heart.
+const RECORDS: usize = 48;
+const ROUNDS: usize = 400;
+
+/// Nanoseconds for one record.
+pub struct Measured {
+    pub name: String,
+    pub length: usize,
+    pub library: f64,
+    pub fast: f64,
+    pub copy: f64,
+}
+
+fn nanoseconds(repeats: usize, mut work: impl FnMut()) -> f64 {
+    let start = Instant::now();
+    for _ in 0..repeats {
+        work();
+    }
+    start.elapsed().as_nanos() as f64 / (repeats * RECORDS) as f64
+}
+
+/// Both implementations must give the same before they are timed.
+fn compare(call: Call, record: &Record) {
+    let (mut words, mut bytes) = (vec![7; 5280], vec![7; 4104]);
+    let (mut words_again, mut bytes_again) = (words.clone(), bytes.clone());
+    let answer = call.library(record, &mut words, &mut bytes);
+    assert_eq!(answer, call.fast(record, &mut words_again, &mut bytes_again), "{}", call.name());
+    assert!(matches!(answer, Answer::Delivered(_)));
+    assert!(words == words_again && bytes == bytes_again, "{}", call.name());
+}
+
+fn measured(call: Call, length: usize) -> Measured {
+    let mut seeded = Seeded(212);
+    let records: Vec<Record> = (0..RECORDS).map(|_| call.record(&mut seeded, length)).collect();
+    records.iter().for_each(|record| compare(call, record));
+    let (mut words, mut bytes) = (vec![0; 5280], vec![0; 4104]);
+    let repeats = (40_000 / (length + 20) / RECORDS).max(1);
+    let mut best = [f64::MAX; 3];
+    for _ in 0..ROUNDS {
+        let library = nanoseconds(repeats, || {
+            for record in &records {
+                black_box(call.library(black_box(record), &mut words, &mut bytes));
+            }
+        });
+        let fast = nanoseconds(repeats, || {
+            for record in &records {
+                black_box(call.fast(black_box(record), &mut words, &mut bytes));
+            }
+        });
+        let copy = nanoseconds(repeats, || {
+            for record in &records {
+                bytes[..record.data.len()].copy_from_slice(&black_box(record).data);
+                black_box(&mut bytes);
+            }
+        });
+        for (least, time) in best.iter_mut().zip([library, fast, copy]) {
+            *least = least.min(time);
+        }
+    }
+    Measured { name: call.name(), length, library: best[0], fast: best[1], copy: best[2] }
+}
+
+fn readings(read: impl Fn(bool, Damage) -> Call, damages: &[Damage]) -> Vec<Call> {
+    [false, true].into_iter().flat_map(|backward| damages.iter().map(move |&damage| (backward, damage))).map(|(backward, damage)| read(backward, damage)).collect()
+}
+
+fn all_measured() -> Vec<Measured> {
+    let at6250 = |backward, damage| Call::Read6250 { backward, damage };
+    let at800 = |backward, damage| Call::Read800 { backward, damage };
+    let mut calls = vec![(Call::Write6250, 4101)];
+    calls.extend(readings(at6250, &[Damage::Clean, Damage::OneTrack, Damage::TwoPointed]).into_iter().map(|call| (call, 4101)));
+    calls.push((Call::Write800, 2048));
+    calls.extend(readings(at800, &[Damage::Clean, Damage::OneTrack]).into_iter().map(|call| (call, 2048)));
+    let mut all = vec![];
+    for (call, full) in calls {
+        all.push(measured(call, 80));
+        all.push(measured(call, full));
+    }
+    all.push(measured(Call::Order { physical: true }, 0));
+    all.push(measured(Call::Order { physical: false }, 0));
+    all
+}
+
+/// Records of more and more groups: what a group costs.
+fn growth() -> Vec<(usize, f64, f64)> {
+    let call = Call::Read6250 { backward: false, damage: Damage::Clean };
+    [1, 2, 4, 8, 16, 32, 64, 128, 256, 586]
+        .into_iter()
+        .map(|groups| {
+            let one = measured(call, 7 * groups - 1);
+            (groups, one.library, one.fast)
+        })
+        .collect()
+}
+
+fn print_table(all: &[Measured]) {
+    println!("| call | bytes | library, ns | MB/s | Rust, ns | library / Rust | memcpy, ns |");
+    println!("|---|---:|---:|---:|---:|---:|---:|");
+    for one in all {
+        let speed = if one.length == 0 { String::new() } else { format!("{:.0}", 1000.0 * one.length as f64 / one.library) };
+        let copy = if one.length == 0 { String::new() } else { format!("{:.0}", one.copy) };
+        println!("| {} | {} | {:.0} | {} | {:.0} | {:.2} | {} |", one.name, one.length, one.library, speed, one.fast, one.library / one.fast, copy);
+    }
+}
+
+fn print_growth(growth: &[(usize, f64, f64)]) {
+    println!("\n| groups read, clean | library, ns | ns a group | Rust, ns | ns a group |");
+    println!("|---:|---:|---:|---:|---:|");
+    for &(groups, library, fast) in growth {
+        println!("| {groups} | {library:.0} | {:.1} | {fast:.0} | {:.1} |", library / groups as f64, fast / groups as f64);
+    }
+}
+
+fn main() {
+    let all = all_measured();
+    print_table(&all);
+    let growth = growth();
+    print_growth(&growth);
+    if let Some(path) = std::env::args().nth(1) {
+        std::fs::write(&path, picture::drawn(&all)).expect("the picture is written");
+    }
+}
