@@ -1,6 +1,9 @@
--- Steps that walks by hand share, for functions that lend a struct by `&mut`. A walk is written in the calculus of
--- `types.Kit`; what stands at the head of its context is named first.
+-- Steps that walks by hand share, for functions that lend a struct by `&mut` or pass one that holds a reference. A walk is
+-- written in the calculus of `types.Kit`; what stands at the head of its context is named first.
 --     meets, framed    a walk of a function's MIR gives the function's theorem; its table of calls is monotone under a frame
+--     meets-spent, ends    the same for a walk that has nothing of its parameters at the exit, and how such a walk ends
+--     shown, both-shown, both-said     a clause that is a fact, and two facts as one
+--     called-as        a function is called: what it asks is shown, and what it says is told as a fact
 --     Callee, called   a function whose clauses are facts is called: its tokens and what its parameters own are handed over, and
 --                      what its result owns, the last values of its `&mut`s and the tokens are had, with the result's value spelled out
 --     opened, shut     a `&mut` of a struct is opened, which gives the struct's cell and what the struct owns, and closed at another value
@@ -20,25 +23,26 @@ use mir.Raw.{raw as rawTy}
 use mir.Val.{Val, WT, hasTy, vptr}
 use base.Logic.{SProp, ent, sep, emp, never, id⊢, via, comm∗, assoc∗, assoc′, mono∗, monoL, monoR, fst∗, snd∗, emp∗, neverE}
 use base.Stored.{Gv}
-use base.Fml.{Lft, Share, GName, Fml, ffalse, fsep, fat, froom, fdies, flft, fobs, fauth, fres, flent, fobor}
+use base.Fml.{Lft, Share, GName, Fml, ftrue, ffalse, fsep, fat, froom, fdies, flft, fobs, fauth, fres, flent, fobor}
 use prog.Wp.{Heap, Env, Calls, Loops, Closed, WpFn, release}
 use prog.Model.{Model}
 use prog.Routine.{Env as Names}
-use ghost.Atoms.{Atoms}
-use contract.Monad.{fact, factI}
+use ghost.Atoms.{Atoms, sem}
+use contract.Monad.{fact, factI, fact-use}
 use contract.Lifetimes.{Lfts, Shares, AllOutlive}
 use contract.Running.{Running, GhostRules, givenOf, tables, tablesOf}
-use types.Kit.{Given, Item, ‵, raw, some, later, _⊛_, mean, ⋆, pop, push, Goal, Post, aim, runs, lands, frees, Soaks, Seq, Step, step, _$_, _∵_, !, qed, by, move, use0, use1, use2, use3, recast, rewrite, split, join, pick, fsplit, fsplit3, fpick, fpack, fjoin, fjoin3, feqL, feqI, await}
+use types.Kit.{Given, Item, ‵, raw, some, later, _⊛_, mean, ⋆, pop, push, Goal, Post, aim, runs, lands, frees, Soaks, Seq, Step, step, _$_, _∵_, !, qed, by, move, use0, use1, use2, use3, recast, rewrite, split, join, pick, fsplit, fsplit3, fpick, fpack, fjoin, fjoin3, feqL, feqI, suffices, await, done}
 use types.Tokens.{lft-end}
 use types.Run.{Opds, forget}
 use types.SemTy.{Body}
 use sound.WpLaws.{FmC, fmOf, WpFn-mono}
-use denote.RattleType.{RattleType, flat, owns}
+use denote.RattleType.{RattleType, Denots, Valss, flat, owns}
 use denote.Laws.{Is, Ises, Are, Spells, valss, Tells, Tellss, shows}
 use denote.Memory.{mem, partOf, lone, cellRaw, cellAt}
 use denote.Ref.{RefT, MutRef}
 use denote.Lend.{lends-ref, ref-back}
-use denote.Signature.{Signature, typeAt, typesAt}
+use denote.Exit.{Last as LastOf, left}
+use denote.Signature.{Slot, Signature, typeAt, typesAt}
 use denote.Steps.{only, opens, closes, peeks, heard}
 use denote.Struct.Declared.{Declared, row}
 use denote.Struct.Laws as LL
@@ -47,9 +51,10 @@ use denote.Triple.Entry.{Args, alive, onEntry}
 use denote.Triple.Statement.{Contract, Triple}
 use denote.Triple.Spec.{Meets, tripleOf}
 use denote.Triple.Call.{calls-at}
+use denote.Triple.End.{Kepts, Fins}
 use denote.Triple.Clauses.{Ended, Clauses, Lasts, atExit, lasts, closing}
 use denote.Triple.Table.{entered}
-use denote.Triple.Walked.{Stays, AllGo, walkOf, walked, walk-meets}
+use denote.Triple.Walked.{Stays, AllGo, stay-dropped, goes-dropped, fitsOf, hasOf, walkOf, ends-at, walked, walk-meets}
 
 -- ---- from a walk to the theorem
 module _ {M : Type 1} (𝓤 : URA M) (H : Heap 𝓤) (𝓜 : Model 𝓤 H) (𝓖 : GhostRules 𝓤 H) (𝓡 : Running 𝓤 H 𝓜) (names : Names) where
@@ -86,6 +91,74 @@ module _ {M : Type 1} (𝓤 : URA M) (H : Heap 𝓤) (𝓜 : Model 𝓤 H) (𝓖
           (walk-meets 𝓤 H (𝓖 .A) T hs (givenOf 𝓤 H 𝓜 𝓖) gs c (WpFn 𝓤 H C Λ e)
           (WpFn-mono 𝓤 H (givenOf 𝓤 H 𝓜 𝓖 .laws) (tablesOf 𝓤 H 𝓜 (tables 𝓤 H 𝓜 𝓡 names)) e) (walked 𝓤 H (𝓖 .A) T hs c (WpFn 𝓤 H C Λ e) sp tl walk))
 
+-- ---- a walk that has nothing of its parameters at the exit, since what they own is handed on
+module _ {n : ℕ} where
+  abbrev pub spent : (ss : List (Slot n)) (ks : Kepts ss) → Stays ss ks
+  spent [] ks = tt
+  spent (s ∷ ss) ks = (stay-dropped s (ks .0), spent ss (ks .1))
+
+  -- nothing is said of any parameter at the exit: a `λ κs x f. refl` for each
+  abbrev pub Silents : (ss : List (Slot n)) → Kepts ss → Type 1
+  Silents [] ks = Unit {1}
+  Silents (s ∷ ss) ks = ((κs : Lfts n) (x : s .row κs .Denot) (f : LastOf (s .row κs .exit (ks .0)) x) → left (s .row κs .exit (ks .0)) x f ≡ ftrue) × Silents ss (ks .1)
+
+  fitting : (κs : Lfts n) (ss : List (Slot n)) (ks : Kepts ss) (a : Denots (typesAt ss κs)) (ws : Fins κs ss ks a) → fitsOf κs ss ks (spent ss ks) a ws
+  fitting κs [] ks a ws = tt
+  fitting κs (s ∷ ss) ks a ws = (tt, fitting κs ss (ks .1) (a .1) (ws .1))
+
+  module _ {M : Type 1} (𝓤 : URA M) (H : Heap 𝓤) (A : Atoms 𝓤) where
+    none-had : (κs : Lfts n) (ss : List (Slot n)) (ks : Kepts ss) (a : Denots (typesAt ss κs)) (ws : Fins κs ss ks a) (vss : Valss (typesAt ss κs))
+        → ent 𝓤 (emp 𝓤) (sem 𝓤 H A (hasOf κs ss ks (spent ss ks) a ws vss))
+    none-had κs [] ks a ws vss = id⊢ 𝓤 (emp 𝓤)
+    none-had κs (s ∷ ss) ks a ws vss = via 𝓤 _ (emp∗ 𝓤 (emp 𝓤)) (monoR 𝓤 (emp 𝓤) (none-had κs ss (ks .1) (a .1) (ws .1) (vss .1)))
+
+    going : (W : Given 𝓤 H A) (ss : List (Slot n)) (ks : Kepts ss) → Silents ss ks → AllGo 𝓤 H A W n ss ks (spent ss ks)
+    going W [] ks quiet = tt
+    going W (s ∷ ss) ks quiet = (goes-dropped 𝓤 H A W n s (ks .0) (quiet .0), going W ss (ks .1) (quiet .1))
+
+abbrev pub dropped : (T : Ended) → Stays (T .signature .params) (T .kept)
+dropped T = spent (T .signature .params) (T .kept)
+
+module _ {M : Type 1} (𝓤 : URA M) (H : Heap 𝓤) (A : Atoms 𝓤) (T : Ended) (c : Clauses 𝓤 T) where
+  abbrev pub WalkSpent : Contract 𝓤
+  WalkSpent = walkOf 𝓤 H A T (dropped T) c
+
+  module _ (W : Given 𝓤 H A) (y : WalkSpent .Ghost) (v : Val) (r : typeAt (T .signature .result) (y .0 .0) .Denot) (ws : Lasts T (y .0 .0) (y .0 .3)) where
+    abbrev Own : Fml
+    Own = typeAt (T .signature .result) (y .0 .0) .own r (v ∷ [])
+
+    abbrev Have : Fml
+    Have = hasOf (y .0 .0) (T .signature .params) (T .kept) (dropped T) (y .0 .3) ws (y .0 .4)
+
+    abbrev Clause : SProp 𝓤
+    Clause = c (y .0 .0) (y .0 .3) .ensures (y .1) r (atExit T (y .0 .0) (y .0 .3) ws)
+
+    -- the walk ends at the result r, last values ws, and a clause that is shown
+    pub ends : ent 𝓤 (emp 𝓤) Clause → ent 𝓤 (sep 𝓤 (sem 𝓤 H A Own) (alive 𝓤 H A (T .signature) (y .0 .0) (y .0 .1))) (WalkSpent .post y v)
+    ends told =
+        qed W (‵ Own ∷ raw (alive 𝓤 H A (T .signature) (y .0 .0) (y .0 .1)) ∷ []) ∵
+        suffices ! _ (ends-at 𝓤 H A T (dropped T) c W y v r ws (fitting (y .0 .0) (T .signature .params) (T .kept) (y .0 .3) ws)) $
+        use0 W (raw Clause) told $ use0 W (‵ Have) (none-had 𝓤 H A (y .0 .0) (T .signature .params) (T .kept) (y .0 .3) ws (y .0 .4)) $
+        move ! (0 ∷ 2 ∷ []) $ join ! $ move ! (2 ∷ 0 ∷ []) $ join ! $ done !
+
+module _ {M : Type 1} (𝓤 : URA M) (H : Heap 𝓤) (𝓜 : Model 𝓤 H) (𝓖 : GhostRules 𝓤 H) (𝓡 : Running 𝓤 H 𝓜) (names : Names) (T : Ended) (c : Clauses 𝓤 T)
+    (sp : (κs : Lfts (T .signature .lifetimes)) → Spells (typesAt (T .signature .params) κs)) where
+  pub meets-spent : ((κs : Lfts (T .signature .lifetimes)) → Tellss (typesAt (T .signature .params) κs) (Ises (typesAt (T .signature .params) κs)) (sp κs)) → Silents (T .signature .params) (T .kept)
+      → (k : Name) (e : Fn) → Closed 𝓤 H (C 𝓤 H 𝓜 𝓖 𝓡 names) (Λ 𝓤 H 𝓜 𝓖 𝓡 names) k e → WalkOf 𝓤 H 𝓜 𝓖 𝓡 names T (dropped T) c sp e
+      → Meets 𝓤 H (𝓖 .A) (T .signature) (C 𝓤 H 𝓜 𝓖 𝓡 names k) (closing 𝓤 H (𝓖 .A) T c)
+  meets-spent tl quiet = meets 𝓤 H 𝓜 𝓖 𝓡 names T (dropped T) c sp tl (going 𝓤 H (𝓖 .A) (givenOf 𝓤 H 𝓜 𝓖) (T .signature .params) (T .kept) quiet)
+
+-- ---- clauses that are facts
+module _ {M : Type 1} (𝓤 : URA M) where
+  pub shown : (φ : Type 0) → φ → ent 𝓤 (emp 𝓤) (fact 𝓤 φ)
+  shown φ x = factI 𝓤 φ (emp 𝓤) x
+
+  pub both-shown : (φ ψ : Type 0) → φ × ψ → ent 𝓤 (emp 𝓤) (sep 𝓤 (fact 𝓤 φ) (fact 𝓤 ψ))
+  both-shown φ ψ x = via 𝓤 _ (emp∗ 𝓤 (emp 𝓤)) (mono∗ 𝓤 (shown φ (x .0)) (shown ψ (x .1)))
+
+  pub both-said : (φ ψ : Type 0) → ent 𝓤 (sep 𝓤 (fact 𝓤 φ) (fact 𝓤 ψ)) (fact 𝓤 (φ × ψ))
+  both-said φ ψ = fact-use 𝓤 φ (fst∗ 𝓤 (fact 𝓤 φ) (fact 𝓤 ψ)) (λ x. fact-use 𝓤 ψ (snd∗ 𝓤 (fact 𝓤 φ) (fact 𝓤 ψ)) (λ z. factI 𝓤 (φ × ψ) _ (x, z)))
+
 -- ---- a call
 module _ {M : Type 1} (𝓤 : URA M) (H : Heap 𝓤) (A : Atoms 𝓤) (T : Ended) (c : Clauses 𝓤 T) where
   abbrev pub Callee : Contract 𝓤
@@ -107,24 +180,36 @@ module _ {M : Type 1} (𝓤 : URA M) (H : Heap 𝓤) (A : Atoms 𝓤) (T : Ended
     abbrev Says : Result .Denot → Last → SProp 𝓤
     Says r zs = c (y .0 .0) (y .0 .3) .ensures (y .1) r (atExit T (y .0 .0) (y .0 .3) zs)
 
-    -- the tokens as an entry of the context, the facts that the clauses state, and how the result's machine value is spelled
-    module _ (tokens : Item 𝓤) (live : mean 𝓤 H A tokens ≡ Live) (ψ : Type 0) (asks : Asks ≡ fact 𝓤 ψ)
-        (φ : Result .Denot → Last → Type 0) (says : (r : Result .Denot) (zs : Last) → Says r zs ≡ fact 𝓤 (φ r zs))
+    -- the tokens as an entry of the context, what the clause that says the result tells, and how the result's machine value is spelled
+    module _ (tokens : Item 𝓤) (live : mean 𝓤 H A tokens ≡ Live) (φ : Result .Denot → Last → Type 0) (says : (r : Result .Denot) (zs : Last) → ent 𝓤 (Says r zs) (fact 𝓤 (φ r zs)))
         (val : Result .Denot → Val) (tl : Tells Result (Is Result) (λ r. val r ∷ [])) where
       abbrev had : Result .Denot → Last → Val → List (Item 𝓤) → List (Item 𝓤)
       had r zs w Γ = ‵ (Result .own r (w ∷ [])) ∷ ‵ (lasts T (y .0 .0) (y .0 .3) zs) ∷ tokens ∷ Γ
 
-      pub called : {K : Type 0} {W : Given 𝓤 H A} {Γ : List (Item 𝓤)} {E : Env 𝓤 H} {C : Calls 𝓤 H} {Λ : Loops 𝓤 H} {q : Post 𝓤 H} {f : Name} {xs : List Operand} {d : Place} {rest : Code}
-          → K → FmC 𝓤 H (W .laws) C → Triple 𝓤 (C f) Callee → ψ → Opds K W (raw (Callee .pre y) ∷ Γ) E xs (Callee .args y)
+      pub called-as : {K : Type 0} {W : Given 𝓤 H A} {Γ : List (Item 𝓤)} {E : Env 𝓤 H} {C : Calls 𝓤 H} {Λ : Loops 𝓤 H} {q : Post 𝓤 H} {f : Name} {xs : List Operand} {d : Place} {rest : Code}
+          → K → FmC 𝓤 H (W .laws) C → Triple 𝓤 (C f) Callee → ent 𝓤 (emp 𝓤) Asks → Opds K W (raw (Callee .pre y) ∷ Γ) E xs (Callee .args y)
           → ((r : Result .Denot) (zs : Last) → Is Result r (val r ∷ []) → φ r zs → Seq K W (had r zs (val r) Γ) (lands C Λ E d (val r) rest q))
           → Seq K W (tokens ∷ ‵ (owns (typesAt (T .signature .params) (y .0 .0)) (y .0 .3) (y .0 .4)) ∷ Γ) (runs C Λ E (seq (call f xs d) rest) q)
-      called {K} {W} {Γ} {E} {C} {Λ} {q} {f} {xs} {d} {rest} t fm met x os k =
-          use0 W (raw Asks) (subst (ent 𝓤 (emp 𝓤)) (sym asks) (factI 𝓤 ψ (emp 𝓤) x)) $ move t (1 ∷ []) $ recast W (raw Live) live $ move t (0 ∷ 2 ∷ 1 ∷ []) $ join t $
+      called-as {K} {W} {Γ} {E} {C} {Λ} {q} {f} {xs} {d} {rest} t fm met asked os k =
+          use0 W (raw Asks) asked $ move t (1 ∷ []) $ recast W (raw Live) live $ move t (0 ∷ 2 ∷ 1 ∷ []) $ join t $
           use2 W (raw (Callee .pre y)) (id⊢ 𝓤 _) $ calls-at t fm Callee met y os (λ w.
           use1 W (later (some (λ (r : Result .Denot). (raw Live ⊛ ‵ (Result .own r (w ∷ []))) ⊛ some (λ (zs : Last). ‵ (lasts T (y .0 .0) (y .0 .3) zs) ⊛ raw (Says r zs))))) (id⊢ 𝓤 _) $ await t tt $
-          pick t (λ r. split t $ move t (1 ∷ []) $ pick t (λ zs. split t $ move t (1 ∷ []) $ recast W (raw (fact 𝓤 (φ r zs))) (says r zs) $ heard t (φ r zs) (λ e.
+          pick t (λ r. split t $ move t (1 ∷ []) $ pick t (λ zs. split t $ move t (1 ∷ []) $ use1 W (raw (fact 𝓤 (φ r zs))) (says r zs) $ heard t (φ r zs) (λ e.
           move t (1 ∷ []) $ split t $ recast W tokens (sym live) $ move t (1 ∷ []) $ peeks t Result (Is Result) (shows 𝓤 H A Result) r (w ∷ []) (λ is. move t (0 ∷ 2 ∷ 1 ∷ []) $
           subst (λ (u : Val). Seq K W (had r zs u Γ) (lands C Λ E d u rest q)) (sym (ap only (tl r (w ∷ []) is))) (k r zs (subst (Is Result r) (tl r (w ∷ []) is) is) e))))))
+
+    -- the same where the clauses are facts
+    module _ (tokens : Item 𝓤) (live : mean 𝓤 H A tokens ≡ Live) (ψ : Type 0) (asks : Asks ≡ fact 𝓤 ψ)
+        (φ : Result .Denot → Last → Type 0) (says : (r : Result .Denot) (zs : Last) → Says r zs ≡ fact 𝓤 (φ r zs))
+        (val : Result .Denot → Val) (tl : Tells Result (Is Result) (λ r. val r ∷ [])) where
+      abbrev told : (r : Result .Denot) (zs : Last) → ent 𝓤 (Says r zs) (fact 𝓤 (φ r zs))
+      told r zs = subst (ent 𝓤 (Says r zs)) (says r zs) (id⊢ 𝓤 _)
+
+      pub called : {K : Type 0} {W : Given 𝓤 H A} {Γ : List (Item 𝓤)} {E : Env 𝓤 H} {C : Calls 𝓤 H} {Λ : Loops 𝓤 H} {q : Post 𝓤 H} {f : Name} {xs : List Operand} {d : Place} {rest : Code}
+          → K → FmC 𝓤 H (W .laws) C → Triple 𝓤 (C f) Callee → ψ → Opds K W (raw (Callee .pre y) ∷ Γ) E xs (Callee .args y)
+          → ((r : Result .Denot) (zs : Last) → Is Result r (val r ∷ []) → φ r zs → Seq K W (had tokens live φ told val tl r zs (val r) Γ) (lands C Λ E d (val r) rest q))
+          → Seq K W (tokens ∷ ‵ (owns (typesAt (T .signature .params) (y .0 .0)) (y .0 .3) (y .0 .4)) ∷ Γ) (runs C Λ E (seq (call f xs d) rest) q)
+      called t fm met x os k = called-as tokens live φ told val tl t fm met (subst (ent 𝓤 (emp 𝓤)) (sym asks) (factI 𝓤 ψ (emp 𝓤) x)) os k
 
 -- ---- a struct behind a `&mut`, and in a local that is lent
 abbrev pub lent : {X : Type 0} → ℕ → ℕ → GName → X → RefT X

@@ -18,3 +18,4 @@ pub mod Fitting
 pub mod Refused
 pub mod Undamaged
 pub mod Backward
+pub mod WalkerSteps

@@ -4,6 +4,7 @@ mod group;
 mod reader;
 mod received;
 mod stray;
+mod walker;
 mod writer;
 
 use answer::Refusal;

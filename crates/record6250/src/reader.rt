@@ -8,6 +8,9 @@ use crate::corrected::unpack;
 use crate::received::receive;
 use crate::stray::first_stray;
 use crate::stray::lent_place;
+use crate::walker::first_group;
+use crate::walker::judge_at;
+use crate::walker::next_group;
 use answer::Reason;
 use answer::Refusal;
 use group_code::backward_readings;
@@ -37,7 +40,13 @@ enum Scan {
 }
 
 // Judges group g of a reading.
-fn judge_group(words: &[u16], maps: &[u16], backward: bool, table: &[u16], g: usize) -> Judged
+pub(crate) fn judge_group(
+    words: &[u16],
+    g: usize,
+    maps: &[u16],
+    backward: bool,
+    table: &[u16],
+) -> Judged
     requires { ⌜ Passes backward (now words) (now maps) × (g < length (now maps)) × (now table ≡ readings backward) ⌝ }
     ensures told { λ r. ⌜ toldJudged r ≡ judgement backward (now (words .entry)) (now (maps .entry)) g ⌝ }
     ensures changed { λ r. ⌜ (isCorrected (toldJudged r) ≡ true → toldChanged r ≡ changedTracks backward (now (words .entry)) (now (maps .entry)) g) ⌝ }
@@ -59,21 +68,21 @@ fn judge_group(words: &[u16], maps: &[u16], backward: bool, table: &[u16], g: us
     }
 }
 
-// Judges every group and gathers the corrected bytes, seven a group, at the front of the body.
+// Walks the groups, judges each and gathers the corrected bytes, seven a group, at the front of the body.
 fn correct_all(words: &[u16], maps: &[u16], backward: bool, table: &[u16], body: &mut [u8]) -> Scan
     requires { ⌜ Passes backward (now words) (now maps) × (7 * length (now maps) ≤ length (now body)) × (now table ≡ readings backward) ⌝ }
     ensures told { λ r. ⌜ toldScan r ≡ scanAnswer backward (now (words .entry)) (now (maps .entry)) ⌝ }
     ensures gathered { λ _. ⌜ (firstUnfit backward (now (words .entry)) (now (maps .entry)) ≡ length (now (maps .entry)) → now (body .exit) ≡ readBody backward (now (words .entry)) (now (maps .entry)) ++ drop (7 * length (now (maps .entry))) (now (body .entry))) ⌝ }
 {
     let mut changes: usize = 0;
-    let mut g = 0;
+    let mut g = first_group(words);
     while g < maps.len() {
-        match judge_group(words, maps, backward, table, g) {
+        match judge_at(words, g, maps, backward, table) {
             Judged::Corrected(right) => {
                 let at = g * 7;
                 unpack(&mut body[at..], right.tracks);
                 changes += u16::count_ones(right.changed) as usize;
-                g += 1;
+                g = next_group(words, g);
             }
             Judged::ManyPointed => {
                 return Scan::Unfit(Refusal {

@@ -34,19 +34,22 @@ Inv-loop words maps backward table body₀ changes₀ g₀ body changes g = (g �
 abbrev μ-loop : tie.MeasureT-loop
 μ-loop words maps backward table body₀ changes₀ g₀ body changes g = length maps - g
 
+first-group-requires : tie.Need-first-group-requires Inv-loop μ-loop
+first-group-requires c κs = search needs
+
 loop-holds : tie.Need-loop-holds Inv-loop μ-loop
 unfolding blocks changedTo total
-loop-holds c = (search needs, λ j h. absurd (not-suc-le-zero h), refl, refl, refl)
+loop-holds c = rw (c .first-group .ensures) (search needs, λ j h. absurd (not-suc-le-zero h), refl, refl, refl)
 
-judge-group-requires : tie.Need-judge-group-requires Inv-loop μ-loop
-judge-group-requires c κs = let start = c .before .before .before .before .before .before in (start .pre .0, c .loop-test .taken, start .pre .2)
+judge-at-requires : tie.Need-judge-at-requires Inv-loop μ-loop
+judge-at-requires c κs = let start = c .before .before .before .before .before .before .before in (start .pre .0, c .loop-test .taken, start .pre .2)
 
 enum-known-right : tie.Need-enum-known-right Inv-loop μ-loop
 enum-known-right c = search needs
 
 mul-at : tie.Need-mul-at Inv-loop μ-loop
 mul-at c =
-    let start = c .before .before .before .before .before .before .before .before .before .before in
+    let start = c .before .before .before .before .before .before .before .before .before .before .before in
     let words = now (start .args .words) in
     let maps = now (start .args .maps) in
     let b = start .args .backward in
@@ -55,7 +58,7 @@ mul-at c =
 
 sub-unpack : tie.Need-sub-unpack Inv-loop μ-loop
 sub-unpack c =
-    let start = c .before .before .before .before .before .before .before .before .before .before in
+    let start = c .before .before .before .before .before .before .before .before .before .before .before in
     let words = now (start .args .words) in
     let maps = now (start .args .maps) in
     let b = start .args .backward in
@@ -64,7 +67,7 @@ sub-unpack c =
 
 part-unpack-start : tie.Need-part-unpack-start Inv-loop μ-loop
 part-unpack-start c =
-    let start = c .before .before .before .before .before .before .before .before .before .before in
+    let start = c .before .before .before .before .before .before .before .before .before .before .before in
     let words = now (start .args .words) in
     let maps = now (start .args .maps) in
     let b = start .args .backward in
@@ -73,7 +76,7 @@ part-unpack-start c =
 
 part-unpack-end : tie.Need-part-unpack-end Inv-loop μ-loop
 part-unpack-end c =
-    let start = c .before .before .before .before .before .before .before .before .before .before in
+    let start = c .before .before .before .before .before .before .before .before .before .before .before in
     let words = now (start .args .words) in
     let maps = now (start .args .maps) in
     let b = start .args .backward in
@@ -82,7 +85,7 @@ part-unpack-end c =
 
 unpack-requires : tie.Need-unpack-requires Inv-loop μ-loop
 unpack-requires c κs =
-    let start = c .before .before .before .before .before .before .before .before .before .before .before in
+    let start = c .before .before .before .before .before .before .before .before .before .before .before .before in
     let words = now (start .args .words) in
     let maps = now (start .args .maps) in
     let b = start .args .backward in
@@ -92,25 +95,25 @@ unpack-requires c κs =
 
 cast-changes : tie.Need-cast-changes Inv-loop μ-loop
 cast-changes c =
-    let start = c .before .before .before .before .before .before .before .before .before .before .before .before .before .before .before in
+    let start = c .before .before .before .before .before .before .before .before .before .before .before .before .before .before .before .before in
     let words = now (start .args .words) in
     let maps = now (start .args .maps) in
     let b = start .args .backward in
     let at = c .before .before .before .before .before .before .before .before .before .before .loop in
     let right = c .before .before .before .before .before .before .right .given in
-    let told = c .before .before .before .before .before .before .before .before .judge-group in
+    let told = c .before .before .before .before .before .before .before .before .judge-at in
     let changed = told-changed (changedTracks b words maps (at .g)) (told .result) (right .0 .0) (right .1) (told .ensures .1) in
     omega (arith, ap ones changed, ones-changed-le b words maps (at .g))
 
 add-changes : tie.Need-add-changes Inv-loop μ-loop
 add-changes c =
-    let start = c .before .before .before .before .before .before .before .before .before .before .before .before .before .before .before in
+    let start = c .before .before .before .before .before .before .before .before .before .before .before .before .before .before .before .before in
     let words = now (start .args .words) in
     let maps = now (start .args .maps) in
     let b = start .args .backward in
     let at = c .before .before .before .before .before .before .before .before .before .before .loop in
     let right = c .before .before .before .before .before .before .right .given in
-    let told = c .before .before .before .before .before .before .before .before .judge-group in
+    let told = c .before .before .before .before .before .before .before .before .judge-at in
     let changed = told-changed (changedTracks b words maps (at .g)) (told .result) (right .0 .0) (right .1) (told .ensures .1) in
     omega (
       arith,
@@ -121,29 +124,33 @@ add-changes c =
       c .before .before .before .before .before .before .before .before .before .loop-test .taken,
     )
 
-add-g : tie.Need-add-g Inv-loop μ-loop
-add-g c = search needs
+next-group-requires : tie.Need-next-group-requires Inv-loop μ-loop
+next-group-requires c κs =
+    let start = c .before .before .before .before .before .before .before .before .before .before .before .before .before .before .before .before in
+    let words = now (start .args .words) in
+    let maps = now (start .args .maps) in
+    omega (arith, groups-within (start .args .backward) words maps (start .pre .0) .1, c .before .before .before .before .before .before .before .before .before .loop-test .taken)
 
 loop-less : tie.Need-loop-less Inv-loop μ-loop
-loop-less c = search needs
+loop-less c = omega (arith, c .next-group .ensures, c .before .before .before .before .before .before .before .before .before .before .loop-test .taken)
 
 loop-again : tie.Need-loop-again Inv-loop μ-loop
 unfolding isCorrected
 loop-again c =
-    let start = c .before .before .before .before .before .before .before .before .before .before .before .before .before .before .before in
+    let start = c .before .before .before .before .before .before .before .before .before .before .before .before .before .before .before .before .before in
     let words = now (start .args .words) in
     let maps = now (start .args .maps) in
     let b = start .args .backward in
-    let at = c .before .before .before .before .before .before .before .before .before .before .loop in
-    let right = c .before .before .before .before .before .before .right .given in
-    let told = c .before .before .before .before .before .before .before .before .judge-group in
+    let at = c .before .before .before .before .before .before .before .before .before .before .before .loop in
+    let right = c .before .before .before .before .before .before .before .right .given in
+    let told = c .before .before .before .before .before .before .before .before .before .judge-at in
     let changed = told-changed (changedTracks b words maps (at .g)) (told .result) (right .0 .0) (right .1) (told .ensures .1) in
-    let fits = told-corrected (judgement b words maps (at .g)) (told .result) (right .0 .0) (right .1) (told .ensures .0) in (
+    let fits = told-corrected (judgement b words maps (at .g)) (told .result) (right .0 .0) (right .1) (told .ensures .0) in rw (c .next-group .ensures) (
       search needs,
       one-more-below (at .g) (λ j. isCorrected (judgement b words maps j) ≡ true) (at .inv .1) (ap isCorrected fits),
-      c .before .before .body .given .1 ∙ at .inv .2,
+      c .before .before .before .body .given .1 ∙ at .inv .2,
       next-stored 7 (λ g. rightBytes (judgement b words maps g)) (λ k. length-rightBytes (judgement b words maps k)) (at .g)
-          (now (start .args .body)) (at .body) _ _ (at .inv .3) (packed-bytes (right .0 .0) ∙ ap rightBytes (sym fits)) (c .before .before .before .unpack .ensures),
+          (now (start .args .body)) (at .body) _ _ (at .inv .3) (packed-bytes (right .0 .0) ∙ ap rightBytes (sym fits)) (c .before .before .before .before .unpack .ensures),
       ap₂ _+_ (at .inv .4) (ap ones changed) ∙ changed-more b words maps (at .g),
     )
 
@@ -156,13 +163,13 @@ same-length c = c .before .before .before .before .loop .inv .2
 returns : tie.Need-returns Inv-loop μ-loop
 unfolding isCorrected reasonOf
 returns c =
-    let start = c .before .before .before .before .before .before .before .before .before in
+    let start = c .before .before .before .before .before .before .before .before .before .before in
     let words = now (start .args .words) in
     let maps = now (start .args .maps) in
     let b = start .args .backward in
     let at = c .before .before .before .before .loop in
     let taken = c .before .before .before .loop-test .taken in
-    let judged = sym (c .before .before .judge-group .ensures .0) ∙ ap toldJudged (c .enum-told .given .1) in (
+    let judged = sym (c .before .before .judge-at .ensures .0) ∙ ap toldJudged (c .enum-told .given .1) in (
       sym (unfit-answer b words maps (at .g) (at .inv .1) taken manyPointed judged refl),
       λ e. absurd (lt-irrefl _ (rw (sym (unfit-at b words maps (at .g) (at .inv .1) taken (ap isCorrected judged)) ∙ e) at taken)),
     )
@@ -176,13 +183,13 @@ same-length-2 c = c .before .before .before .before .loop .inv .2
 returns-2 : tie.Need-returns-2 Inv-loop μ-loop
 unfolding isCorrected reasonOf
 returns-2 c =
-    let start = c .before .before .before .before .before .before .before .before .before in
+    let start = c .before .before .before .before .before .before .before .before .before .before in
     let words = now (start .args .words) in
     let maps = now (start .args .maps) in
     let b = start .args .backward in
     let at = c .before .before .before .before .loop in
     let taken = c .before .before .before .loop-test .taken in
-    let judged = sym (c .before .before .judge-group .ensures .0) ∙ ap toldJudged (c .enum-told2 .given .1) in (
+    let judged = sym (c .before .before .judge-at .ensures .0) ∙ ap toldJudged (c .enum-told2 .given .1) in (
       sym (unfit-answer b words maps (at .g) (at .inv .1) taken noGroup judged refl),
       λ e. absurd (lt-irrefl _ (rw (sym (unfit-at b words maps (at .g) (at .inv .1) taken (ap isCorrected judged)) ∙ e) at taken)),
     )
@@ -193,7 +200,7 @@ same-length-3 c = c .before .loop .inv .2
 returns-3 : tie.Need-returns-3 Inv-loop μ-loop
 unfolding readBody changes changedTo
 returns-3 c =
-    let start = c .before .before .before .before .before .before .args in
+    let start = c .before .before .before .before .before .before .before .args in
     let words = now (start .words) in
     let maps = now (start .maps) in
     let b = start .backward in
@@ -210,8 +217,9 @@ correct-all-spec =
     (tie.spec
     Inv-loop
     μ-loop
+    first-group-requires
     loop-holds
-    judge-group-requires
+    judge-at-requires
     enum-known-right
     mul-at
     sub-unpack
@@ -220,7 +228,7 @@ correct-all-spec =
     unpack-requires
     cast-changes
     add-changes
-    add-g
+    next-group-requires
     loop-less
     loop-again
     enum-told
