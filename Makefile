@@ -1,13 +1,16 @@
-# make run    build the proved library and show it at work on an example
-# make test   the gate: every proof, every must-fail edit, every test
-# make bench  how fast every call is, beside Rust written for speed and beside memcpy
-.PHONY: run test bench
+# make run        build the proved library and show it at work on an example
+# make test       the gate: every proof, every must-fail edit, every test
+# make benchmark  how fast every call is, beside Rust written for speed and beside memcpy
+.PHONY: run test benchmark
 
 ARCHIVE := target/staticlib/librindthok.a
+PROGRAMS := target/bin/listing target/bin/bench
 SOURCES := $(shell find crates -name '*.rt' -o -name '*.antt') crates.txt
 
-run: target/bin/listing target/write_and_read
+run: $(PROGRAMS) target/write_and_read
 	printf '\001' | ./target/bin/listing
+	./target/bin/bench read 6250 forward <examples/damaged_forward.txt
+	./target/bin/bench read 6250 backward <examples/damaged_backward.txt
 	./target/write_and_read
 
 test:
@@ -20,9 +23,9 @@ target/write_and_read: examples/write_and_read.c include/rindthok.h $(ARCHIVE)
 $(ARCHIVE): $(SOURCES)
 	rt staticlib rindthok
 
-target/bin/listing: $(SOURCES)
-	rt check listing
+$(PROGRAMS) &: $(SOURCES)
+	rt check listing bench
 
 # How fast every call is, beside an implementation in Rust and beside memcpy; draws docs/benchmark.svg.
-bench: $(ARCHIVE)
+benchmark: $(ARCHIVE)
 	cargo run --release --offline --quiet --manifest-path benchmark/Cargo.toml -- docs/benchmark.svg

@@ -4,7 +4,10 @@ ghost use mathlib.Core.Path.{_≡_};
 ghost use mathlib.Core.Bool.{false, true};
 ghost use Rattle.group_code.specs.Word.{readings};
 
-const FORWARD: [u16; 1024] = [
+// A number for each word of ten bits.
+pub type Readings = [u16; 1024];
+
+const FORWARD: Readings = [
     272,
     272,
     272,
@@ -1032,13 +1035,13 @@ const FORWARD: [u16; 1024] = [
 ];
 
 // How each word of ten bits reads forward: its value, and in bit 8 whether it is illegal.
-pub fn forward_readings() -> [u16; 1024]
+pub fn forward_readings() -> Readings
     ensures { λ r. ⌜ r ≡ readings false ⌝ }
 {
     FORWARD
 }
 
-const BACKWARD: [u16; 1024] = [
+const BACKWARD: Readings = [
     272,
     272,
     272,
@@ -2066,7 +2069,7 @@ const BACKWARD: [u16; 1024] = [
 ];
 
 // How each reads backward, with its bits the other way round.
-pub fn backward_readings() -> [u16; 1024]
+pub fn backward_readings() -> Readings
     ensures { λ r. ⌜ r ≡ readings true ⌝ }
 {
     BACKWARD

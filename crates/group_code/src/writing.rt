@@ -4,7 +4,10 @@ ghost use mathlib.Core.Path.{_≡_};
 ghost use Rattle.indexed.specs.List.{tabulate};
 ghost use Rattle.group_code.specs.Code.{wordOf};
 
-const WORDS: [u16; 256] = [
+// A word for each byte.
+pub type Words = [u16; 256];
+
+const WORDS: Words = [
     825,
     827,
     818,
@@ -264,7 +267,7 @@ const WORDS: [u16; 256] = [
 ];
 
 // The word of each track byte.
-pub fn written_words() -> [u16; 256]
+pub fn written_words() -> Words
     ensures { λ r. ⌜ r ≡ tabulate 256 wordOf ⌝ }
 {
     WORDS

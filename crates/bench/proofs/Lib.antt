@@ -1,0 +1,5 @@
+pub mod Numbers
+pub mod Turned
+pub mod Legal
+pub mod Marked
+pub mod Filled

@@ -1,0 +1,40 @@
+-- `bench::at6250::write_again` meets its contract, which is that of writing.
+-- Assumes nothing.
+use Prim.Native.Nat.{ℕ}
+use mathlib.Core.Path.{sym, ap, _∙_}
+use native.Mathlib.Omega.{arith}
+use borrow.Author.Needs.{needs}
+use lib.Seq.{length-take-le}
+use lib.ListN.{length, take}
+use Rattle.answer.specs.Answer.{Answer, outputAfter}
+use Rattle.record6250.specs.Record.{writtenRecord}
+use Rattle.record6250.specs.Written.{writeAnswer}
+use Rattle.bench.proofs.at6250.write_again.Statement.{statement}
+use Rattle.bench.proofs.at6250.write_again.Tie as tie
+
+slice-aggregate-write : tie.Need-slice-aggregate-write
+slice-aggregate-write c = sym (length-take-le _ _ (search needs))
+
+write-requires : tie.Need-write-requires
+write-requires c κs = search needs
+
+same-length : tie.Need-same-length
+same-length c = search needs
+
+returns : tie.Need-returns
+returns c =
+    let written = c .before .before .write in
+    let args = c .before .before .before .before .before .before .before .before .args in
+    let bytes = args .bytes .now in
+    let held = args .words .now in
+    λ h.
+    written .ensures .1
+    ∙ ap (λ (a : Answer). outputAfter a (writtenRecord (take (args .count) bytes)) held)
+    (written .ensures .0 ∙ ap (λ (n : ℕ). writeAnswer n (length held)) (length-take-le (args .count) bytes h))
+
+returns-2 : tie.Need-returns-2
+returns-2 c = λ h. absurd (omega arith)
+
+pub write-again-spec : {M : Type 1} → statement M
+write-again-spec =
+    tie.close (tie.spec slice-aggregate-write write-requires same-length returns returns-2)

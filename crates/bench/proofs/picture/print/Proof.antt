@@ -1,0 +1,79 @@
+-- `bench::picture::print` is safe and ends: every block has a column at least.
+-- Assumes nothing.
+use Prim.Native.Nat.{_≤_, _-_}
+use borrow.Author.Needs.{needs}
+use Rattle.bench.proofs.picture.print.Statement.{statement}
+use Rattle.bench.proofs.picture.print.Tie as tie
+
+abbrev Inv-loop : tie.InvT-loop
+Inv-loop marks columns shown groups from₀ from = from ≤ columns
+
+abbrev μ-loop : tie.MeasureT-loop
+μ-loop marks columns shown groups from₀ from = columns - from
+
+title-requires : tie.Need-title-requires Inv-loop μ-loop
+title-requires c κs = search needs
+
+loop-holds : tie.Need-loop-holds Inv-loop μ-loop
+loop-holds c = search needs
+
+sub-block : tie.Need-sub-block Inv-loop μ-loop
+sub-block c = search needs
+
+block-requires : tie.Need-block-requires Inv-loop μ-loop
+block-requires c κs = search needs
+
+add-first-of : tie.Need-add-first-of Inv-loop μ-loop
+add-first-of c = search needs
+
+first-of-requires : tie.Need-first-of-requires Inv-loop μ-loop
+first-of-requires c κs = search needs
+
+least-requires : tie.Need-least-requires Inv-loop μ-loop
+least-requires c κs = search needs
+
+first-of-requires-2 : tie.Need-first-of-requires-2 Inv-loop μ-loop
+first-of-requires-2 c κs = search needs
+
+before-requires : tie.Need-before-requires Inv-loop μ-loop
+before-requires c κs = search needs
+
+heading-requires : tie.Need-heading-requires Inv-loop μ-loop
+heading-requires c κs = search needs
+
+print-rows-requires : tie.Need-print-rows-requires Inv-loop μ-loop
+print-rows-requires c κs = search needs
+
+add-from : tie.Need-add-from Inv-loop μ-loop
+add-from c = search needs
+
+loop-less : tie.Need-loop-less Inv-loop μ-loop
+loop-less c = search needs
+
+loop-again : tie.Need-loop-again Inv-loop μ-loop
+loop-again c = search needs
+
+returns : tie.Need-returns Inv-loop μ-loop
+returns c = search needs
+
+pub print-spec : {M : Type 1} → statement M
+print-spec =
+    tie.close
+    (tie.spec
+    Inv-loop
+    μ-loop
+    title-requires
+    loop-holds
+    sub-block
+    block-requires
+    add-first-of
+    first-of-requires
+    least-requires
+    first-of-requires-2
+    before-requires
+    heading-requires
+    print-rows-requires
+    add-from
+    loop-less
+    loop-again
+    returns)

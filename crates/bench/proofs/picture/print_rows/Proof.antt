@@ -1,0 +1,47 @@
+-- `bench::picture::print_rows` is safe and ends: nine tracks.
+-- Assumes nothing.
+use Prim.Native.Nat.{_-_, _≤_}
+use borrow.Author.Needs.{needs}
+use Rattle.bench.proofs.picture.print_rows.Statement.{statement}
+use Rattle.bench.proofs.picture.print_rows.Tie as tie
+
+abbrev Inv-loop : tie.InvT-loop
+Inv-loop marks from count groups track₀ track = track ≤ 9
+
+abbrev μ-loop : tie.MeasureT-loop
+μ-loop marks from count groups track₀ track = 9 - track
+
+loop-holds : tie.Need-loop-holds Inv-loop μ-loop
+loop-holds c = search needs
+
+label-requires : tie.Need-label-requires Inv-loop μ-loop
+label-requires c κs = search needs
+
+print-row-requires : tie.Need-print-row-requires Inv-loop μ-loop
+print-row-requires c κs = search needs
+
+add-track : tie.Need-add-track Inv-loop μ-loop
+add-track c = search needs
+
+loop-less : tie.Need-loop-less Inv-loop μ-loop
+loop-less c = search needs
+
+loop-again : tie.Need-loop-again Inv-loop μ-loop
+loop-again c = search needs
+
+returns : tie.Need-returns Inv-loop μ-loop
+returns c = search needs
+
+pub print-rows-spec : {M : Type 1} → statement M
+print-rows-spec =
+    tie.close
+    (tie.spec
+    Inv-loop
+    μ-loop
+    loop-holds
+    label-requires
+    print-row-requires
+    add-track
+    loop-less
+    loop-again
+    returns)

@@ -1,0 +1,136 @@
+-- `bench::text::line_at` is safe and ends: every turn passes a byte at least.
+-- Assumes nothing.
+use Prim.Native.Nat.{_≤_, _-_}
+use mathlib.Core.Path.{_≡_, sym, _∙_}
+use native.Mathlib.Omega.{arith}
+use borrow.Author.Needs.{needs}
+use lib.ListN.{length}
+use Rattle.bench.proofs.Numbers.{number-ahead, number-within}
+use Rattle.bench.proofs.text.line_at.Statement.{statement}
+use Rattle.bench.proofs.text.line_at.Tie as tie
+
+abbrev Inv-loop : tie.InvT-loop
+Inv-loop text at row₀ count₀ end₀ row count end =
+    (at ≤ end) × (end ≤ length text) × (count ≤ end) × (length row ≡ length row₀)
+
+abbrev μ-loop : tie.MeasureT-loop
+μ-loop text at row₀ count₀ end₀ row count end = length text - end
+
+loop-holds : tie.Need-loop-holds Inv-loop μ-loop
+loop-holds c = search needs
+
+shared-slice-read-if1 : tie.Need-shared-slice-read-if1 Inv-loop μ-loop
+shared-slice-read-if1 c = search needs
+
+line-requires : tie.Need-line-requires Inv-loop μ-loop
+line-requires c κs = search needs
+
+same-length : tie.Need-same-length Inv-loop μ-loop
+same-length c = search needs
+
+returns : tie.Need-returns Inv-loop μ-loop
+returns c = search needs
+
+shared-slice-read-separates : tie.Need-shared-slice-read-separates Inv-loop μ-loop
+shared-slice-read-separates c = search needs
+
+separates-requires : tie.Need-separates-requires Inv-loop μ-loop
+separates-requires c κs = search needs
+
+add-end : tie.Need-add-end Inv-loop μ-loop
+add-end c = search needs
+
+loop-less : tie.Need-loop-less Inv-loop μ-loop
+loop-less c = search needs
+
+loop-again : tie.Need-loop-again Inv-loop μ-loop
+loop-again c = search needs
+
+number-at-requires : tie.Need-number-at-requires Inv-loop μ-loop
+number-at-requires c κs = search needs
+
+line-requires-2 : tie.Need-line-requires-2 Inv-loop μ-loop
+line-requires-2 c κs = search needs
+
+same-length-2 : tie.Need-same-length-2 Inv-loop μ-loop
+same-length-2 c = search needs
+
+returns-2 : tie.Need-returns-2 Inv-loop μ-loop
+returns-2 c = search needs
+
+line-requires-3 : tie.Need-line-requires-3 Inv-loop μ-loop
+line-requires-3 c κs = search needs
+
+same-length-3 : tie.Need-same-length-3 Inv-loop μ-loop
+same-length-3 c = search needs
+
+returns-3 : tie.Need-returns-3 Inv-loop μ-loop
+returns-3 c = search needs
+
+cast-put : tie.Need-cast-put Inv-loop μ-loop
+cast-put c = search needs
+
+put-requires : tie.Need-put-requires Inv-loop μ-loop
+put-requires c κs = search needs
+
+add-count : tie.Need-add-count Inv-loop μ-loop
+add-count c = search needs
+
+loop-less-2 : tie.Need-loop-less-2 Inv-loop μ-loop
+loop-less-2 c =
+    let n = c .before .before .before .before .before .before .before .before .before in
+    let k = n .before .before .before .before .before .before in
+    let text = k .before .before .before .before .args .text .now in
+    let ahead = number-ahead text (k .before .loop .end) (n .number-at .result) (k .loop-test .taken) (sym (n .before .before .separates .ensures) ∙ n .before .if2 .left) (n .number-at .ensures) in
+    let within = number-within text (k .before .loop .end) (n .number-at .result) (k .loop-test .taken) (n .number-at .ensures) in
+    omega arith
+
+loop-again-2 : tie.Need-loop-again-2 Inv-loop μ-loop
+loop-again-2 c =
+    let n = c .before .before .before .before .before .before .before .before .before in
+    let k = n .before .before .before .before .before .before in
+    let text = k .before .before .before .before .args .text .now in
+    let ahead = number-ahead text (k .before .loop .end) (n .number-at .result) (k .loop-test .taken) (sym (n .before .before .separates .ensures) ∙ n .before .if2 .left) (n .number-at .ensures) in
+    let within = number-within text (k .before .loop .end) (n .number-at .result) (k .loop-test .taken) (n .number-at .ensures) in
+    (omega arith, omega arith, omega arith, search needs)
+
+line-requires-4 : tie.Need-line-requires-4 Inv-loop μ-loop
+line-requires-4 c κs = search needs
+
+same-length-4 : tie.Need-same-length-4 Inv-loop μ-loop
+same-length-4 c = search needs
+
+returns-4 : tie.Need-returns-4 Inv-loop μ-loop
+returns-4 c = search needs
+
+pub line-at-spec : {M : Type 1} → statement M
+line-at-spec =
+    tie.close
+    (tie.spec
+    Inv-loop
+    μ-loop
+    loop-holds
+    shared-slice-read-if1
+    line-requires
+    same-length
+    returns
+    shared-slice-read-separates
+    separates-requires
+    add-end
+    loop-less
+    loop-again
+    number-at-requires
+    line-requires-2
+    same-length-2
+    returns-2
+    line-requires-3
+    same-length-3
+    returns-3
+    cast-put
+    put-requires
+    add-count
+    loop-less-2
+    loop-again-2
+    line-requires-4
+    same-length-4
+    returns-4)

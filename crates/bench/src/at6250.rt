@@ -1,0 +1,156 @@
+// The bench at 6250 bits per inch (document 01, "The 6250 record").
+use crate::marks::View;
+use crate::marks::group_marks;
+use crate::marks::refused_column;
+use crate::picture;
+use crate::print;
+use crate::reading;
+use answer::Refusal;
+use libc::STDIN_FILENO;
+use record6250::Figures;
+use record6250::Read;
+use record6250::Written;
+ghost use mathlib.Core.Path.{_≡_};
+ghost use Prim.Native.Nat.{_*_, _≤_, min};
+ghost use lib.ListN.{length, take};
+ghost use Rattle.answer.specs.Answer.{outputAfter};
+ghost use Rattle.record6250.specs.Read.{readAnswer, readData};
+ghost use Rattle.record6250.specs.Record.{writtenRecord};
+ghost use Rattle.record6250.specs.Told.{toldRead};
+ghost use Rattle.record6250.specs.Written.{writeAnswer};
+
+// Writes the record of the data on standard input.
+pub(crate) fn write() {
+    // One byte more than a record holds, so that longer data are seen and refused.
+    let mut bytes = [0u8; 4102];
+    let count = io::read_full(STDIN_FILENO, &mut bytes);
+    let mut words = [0u16; 5274];
+    match record6250::write(&bytes[..count], &mut words) {
+        Written::Delivered(groups) => print::words(&words, words_of(groups)),
+        Written::Refused(refusal) => print::refused(refusal),
+    }
+}
+
+// How many words so many groups have; no record has more than 586.
+fn words_of(groups: usize) -> usize
+    ensures { λ r. ⌜ r ≡ min (groups * 9) 5274 ⌝ }
+{
+    if groups > 586 { 5274 } else { groups * 9 }
+}
+
+// Reads the record whose reading is on standard input.
+pub(crate) fn read(backward: bool) {
+    let mut text = io::large_buffer();
+    let size = io::read_full(STDIN_FILENO, &mut text);
+    if size > 65535 {
+        print::too_long();
+        return;
+    }
+    // One group more than a record has, so that longer readings are seen and refused.
+    let mut words = [0u16; 5283];
+    let mut maps = [0u16; 587];
+    let parsed = reading::groups(&text[..size], &mut words, &mut maps);
+    let fault = parsed.fault;
+    if !reading::is_whole(fault) {
+        print::fault(parsed);
+        return;
+    }
+    let groups = parsed.stored;
+    let end = groups * 9;
+    show(&words[..end], &maps[..groups], backward);
+}
+
+// Reads the record, either way.
+fn answered(words: &[u16], maps: &[u16], backward: bool, output: &mut [u8]) -> Read
+    ensures answer { λ r. ⌜ toldRead r ≡ readAnswer backward (now (words .entry)) (now (maps .entry)) (length (now (output .entry))) ⌝ }
+    ensures output { λ r. ⌜ now (output .exit) ≡ outputAfter (toldRead r) (readData backward (now (words .entry)) (now (maps .entry))) (now (output .entry)) ⌝ }
+{
+    if backward {
+        return record6250::read_backward(words, maps, output);
+    }
+    record6250::read_forward(words, maps, output)
+}
+
+// The words of the record that was delivered, from its data.
+fn write_again(bytes: &[u8], count: usize, words: &mut [u16])
+    ensures { λ _. ⌜ (count ≤ length (now (bytes .entry)) → now (words .exit) ≡ outputAfter (writeAnswer count (length (now (words .entry)))) (writtenRecord (take count (now (bytes .entry)))) (now (words .entry))) ⌝ }
+{
+    if count <= bytes.len() {
+        record6250::write(&bytes[..count], words);
+    }
+}
+
+// Marks the tracks and prints the picture.
+fn draw(words: &[u16], maps: &[u16], right: &[u16; 5283], view: View)
+    requires { ⌜ (length (now words) ≡ 9 * length (now maps)) × (length (now maps) ≤ 587) ⌝ }
+{
+    let mut marks = [0u8; 5283];
+    group_marks(words, maps, right, view, &mut marks);
+    picture::print(&marks, maps.len(), maps.len(), true);
+}
+
+// A delivery: the figures, the data, and the picture, in which the record that was delivered shows what was
+// corrected.
+fn show_delivered(words: &[u16], maps: &[u16], backward: bool, output: &[u8], figures: Figures)
+    requires { ⌜ (length (now words) ≡ 9 * length (now maps)) × (length (now maps) ≤ 587) ⌝ }
+{
+    print::delivered();
+    print::space();
+    print::number(figures.length);
+    print::space();
+    print::number(figures.changes);
+    print::newline();
+    print::data(output, figures.length);
+    let mut right = [0u16; 5283];
+    write_again(output, figures.length, &mut right);
+    let place = maps.len();
+    draw(
+        words,
+        maps,
+        &right,
+        View {
+            backward,
+            delivered: true,
+            place,
+        },
+    );
+    print::legend(
+        b"marks: . as read, p pointed and right, c corrected, C pointed and corrected, i illegal and corrected\n",
+    );
+}
+
+// A refusal: the answer, and the picture of what was read. One for a length or for space has none, since the
+// reading is then no record.
+fn show_refused(words: &[u16], maps: &[u16], backward: bool, refusal: Refusal)
+    requires { ⌜ (length (now words) ≡ 9 * length (now maps)) × (length (now maps) ≤ 587) ⌝ }
+{
+    print::refused(refusal);
+    let reason = refusal.reason;
+    if reason.number() < 3 {
+        return;
+    }
+    let right = [0u16; 5283];
+    let place = refused_column(reason, refusal.place, maps.len());
+    draw(
+        words,
+        maps,
+        &right,
+        View {
+            backward,
+            delivered: false,
+            place,
+        },
+    );
+    print::legend(b"marks: . as read, p pointed, i illegal, x refused\n");
+}
+
+// Reads the record and shows the answer, the data and the picture.
+fn show(words: &[u16], maps: &[u16], backward: bool)
+    requires { ⌜ (length (now words) ≡ 9 * length (now maps)) × (length (now maps) ≤ 587) ⌝ }
+{
+    let mut output = [0u8; 4102];
+    match answered(words, maps, backward, &mut output) {
+        Read::Delivered(figures) => show_delivered(words, maps, backward, &output, figures),
+        Read::Refused(refusal) => show_refused(words, maps, backward, refusal),
+    }
+}

@@ -1,0 +1,154 @@
+// The bench at 800 bits per inch (document 01, "The 800 record").
+use crate::marks::View;
+use crate::marks::refused_column;
+use crate::marks::run_marks;
+use crate::picture;
+use crate::print;
+use crate::reading;
+use answer::Refusal;
+use libc::STDIN_FILENO;
+use record800::Figures;
+use record800::Read;
+use record800::Written;
+ghost use mathlib.Core.Path.{_≡_};
+ghost use Prim.Native.Nat.{_+_, _/_, _≤_};
+ghost use lib.ListN.{length, take};
+ghost use Rattle.answer.specs.Answer.{outputAfter};
+ghost use Rattle.record800.specs.Read.{readAnswer, readData};
+ghost use Rattle.record800.specs.Record.{writtenRecord};
+ghost use Rattle.record800.specs.Told.{toldRead};
+ghost use Rattle.record800.specs.Written.{writeAnswer};
+
+// Writes the record of the data on standard input.
+pub(crate) fn write() {
+    // One byte more than a record holds, so that longer data are seen and refused.
+    let mut bytes = [0u8; 2049];
+    let count = io::read_full(STDIN_FILENO, &mut bytes);
+    let mut characters = [0u16; 2050];
+    match record800::write(&bytes[..count], &mut characters) {
+        Written::Delivered(stored) => print::words(&characters, stored),
+        Written::Refused(refusal) => print::refused(refusal),
+    }
+}
+
+// Reads the record whose reading is on standard input.
+pub(crate) fn read(backward: bool) {
+    let mut text = io::large_buffer();
+    let size = io::read_full(STDIN_FILENO, &mut text);
+    if size > 65535 {
+        print::too_long();
+        return;
+    }
+    // One character more than a record has, so that longer readings are seen and refused.
+    let mut characters = [0u16; 2051];
+    let parsed = reading::characters(&text[..size], &mut characters);
+    let fault = parsed.fault;
+    if !reading::is_whole(fault) {
+        print::fault(parsed);
+        return;
+    }
+    let stored = parsed.stored;
+    show(&characters[..stored], backward);
+}
+
+// Reads the record, either way.
+fn answered(characters: &[u16], backward: bool, output: &mut [u8]) -> Read
+    ensures answer { λ r. ⌜ toldRead r ≡ readAnswer backward (now (characters .entry)) (length (now (output .entry))) ⌝ }
+    ensures output { λ r. ⌜ now (output .exit) ≡ outputAfter (toldRead r) (readData backward (now (characters .entry))) (now (output .entry)) ⌝ }
+{
+    if backward {
+        return record800::read_backward(characters, output);
+    }
+    record800::read_forward(characters, output)
+}
+
+// The characters of the record that was delivered, from its data.
+fn write_again(bytes: &[u8], count: usize, characters: &mut [u16])
+    ensures { λ _. ⌜ (count ≤ length (now (bytes .entry)) → now (characters .exit) ≡ outputAfter (writeAnswer count (length (now (characters .entry)))) (writtenRecord (take count (now (bytes .entry)))) (now (characters .entry))) ⌝ }
+{
+    if count <= bytes.len() {
+        record800::write(&bytes[..count], characters);
+    }
+}
+
+// How many runs of 32 characters there are, the last of which may be shorter.
+fn columns_of(characters: usize) -> usize
+    requires { ⌜ characters ≤ 2051 ⌝ }
+    ensures { λ r. ⌜ r ≡ (characters + 31) / 32 ⌝ }
+{
+    (characters + 31) / 32
+}
+
+// Marks the tracks and prints the picture.
+fn draw(characters: &[u16], right: &[u16; 2051], view: View)
+    requires { ⌜ length (now characters) ≤ 2051 ⌝ }
+{
+    let columns = columns_of(characters.len());
+    let mut marks = [0u8; 585];
+    run_marks(characters, right, view, columns, &mut marks);
+    picture::print(&marks, columns, characters.len(), false);
+}
+
+// A delivery: the figures, the data, and the picture, in which the record that was delivered shows what was
+// corrected.
+fn show_delivered(characters: &[u16], backward: bool, output: &[u8], figures: Figures)
+    requires { ⌜ length (now characters) ≤ 2051 ⌝ }
+{
+    print::delivered();
+    print::space();
+    print::number(figures.length);
+    print::space();
+    print::number(figures.track);
+    print::space();
+    print::number(figures.changes);
+    print::newline();
+    print::data(output, figures.length);
+    let mut right = [0u16; 2051];
+    write_again(output, figures.length, &mut right);
+    let place = columns_of(characters.len());
+    draw(
+        characters,
+        &right,
+        View {
+            backward,
+            delivered: true,
+            place,
+        },
+    );
+    print::legend(b"marks: . as read, c corrected\n");
+}
+
+// A refusal: the answer, and the picture of what was read. One for a length or for space has none, since the
+// reading is then no record.
+fn show_refused(characters: &[u16], backward: bool, refusal: Refusal)
+    requires { ⌜ length (now characters) ≤ 2051 ⌝ }
+{
+    print::refused(refusal);
+    let reason = refusal.reason;
+    if reason.number() < 3 {
+        return;
+    }
+    let right = [0u16; 2051];
+    let place = refused_column(reason, refusal.place / 32, columns_of(characters.len()));
+    draw(
+        characters,
+        &right,
+        View {
+            backward,
+            delivered: false,
+            place,
+        },
+    );
+    print::legend(b"marks: . as read, x refused\n");
+}
+
+// Reads the record and shows the answer, the data and the picture.
+fn show(characters: &[u16], backward: bool)
+    requires { ⌜ length (now characters) ≤ 2051 ⌝ }
+{
+    let mut output = [0u8; 2049];
+    match answered(characters, backward, &mut output) {
+        Read::Delivered(figures) => show_delivered(characters, backward, &output, figures),
+        Read::Refused(refusal) => show_refused(characters, backward, refusal),
+    }
+}

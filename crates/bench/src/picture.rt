@@ -1,0 +1,116 @@
+// The picture of a record: a row for each track, a column for each group or run of characters, in blocks of
+// at most 64 columns, in the forward order of the record.
+use crate::print::newline;
+use crate::print::number;
+use libc::STDOUT_FILENO;
+ghost use mathlib.Core.List.{_++_};
+ghost use mathlib.Core.Path.{_≡_};
+ghost use Prim.Native.Nat.{_+_, _-_, _*_, _<_, _≤_, min};
+ghost use lib.ListN.{length, drop};
+ghost use Rattle.bench.specs.Marks.{rowOf, firstOf};
+
+fn least(a: usize, b: usize) -> usize
+    ensures { λ r. ⌜ r ≡ min a b ⌝ }
+{
+    if a < b { a } else { b }
+}
+
+// The marks of a track, from a column on, at the front of the row.
+fn gather(marks: &[u8], track: usize, from: usize, count: usize, row: &mut [u8])
+    requires { ⌜ (track < 9) × (9 * (from + count) ≤ length (now marks)) × (count ≤ length (now row)) ⌝ }
+    ensures { λ _. ⌜ now (row .exit) ≡ rowOf (now (marks .entry)) track from count ++ drop count (now (row .entry)) ⌝ }
+{
+    let mut k = 0;
+    while k < count {
+        row[k] = marks[9 * (from + k) + track];
+        k += 1;
+    }
+}
+
+// The label of a track, and a space.
+fn label(track: usize, groups: bool) {
+    if groups {
+        if track == 8 {
+            io::write_all(STDOUT_FILENO, b"P ");
+            return;
+        }
+    }
+    number(track);
+    io::write_all(STDOUT_FILENO, b" ");
+}
+
+fn print_row(marks: &[u8], track: usize, from: usize, count: usize)
+    requires { ⌜ (track < 9) × (9 * (from + count) ≤ length (now marks)) × (count ≤ 64) ⌝ }
+{
+    let mut row = [0u8; 64];
+    gather(marks, track, from, count, &mut row);
+    io::write_all(STDOUT_FILENO, &row[..count]);
+    newline();
+}
+
+// What the columns of a block show, from the first group or character to the last.
+fn heading(first: usize, last: usize, groups: bool) {
+    if groups {
+        io::write_all(STDOUT_FILENO, b"groups ");
+    } else {
+        io::write_all(STDOUT_FILENO, b"characters ");
+    }
+    number(first);
+    io::write_all(STDOUT_FILENO, b" to ");
+    number(last);
+    newline();
+}
+
+fn print_rows(marks: &[u8], from: usize, count: usize, groups: bool)
+    requires { ⌜ (9 * (from + count) ≤ length (now marks)) × (count ≤ 64) ⌝ }
+{
+    let mut track = 0;
+    while track < 9 {
+        label(track, groups);
+        print_row(marks, track, from, count);
+        track += 1;
+    }
+}
+
+// How many of the columns that are left the next block has.
+fn block(left: usize) -> usize
+    requires { ⌜ 0 < left ⌝ }
+    ensures block { λ r. ⌜ r ≡ min 64 left ⌝ }
+    ensures within { λ r. ⌜ (0 < r) × (r ≤ 64) × (r ≤ left) ⌝ }
+{
+    if left < 64 { left } else { 64 }
+}
+
+fn title() {
+    io::write_all(STDOUT_FILENO, b"picture\n");
+}
+
+// The first group of a column, or the first character: a column of characters has 32.
+fn first_of(column: usize, groups: bool) -> usize
+    requires { ⌜ column ≤ 587 ⌝ }
+    ensures { λ r. ⌜ r ≡ firstOf groups column ⌝ }
+{
+    if groups { column } else { 32 * column }
+}
+
+// The number before another, or 0.
+fn before(n: usize) -> usize
+    ensures { λ r. ⌜ r ≡ n - 1 ⌝ }
+{
+    if n == 0 { 0 } else { n - 1 }
+}
+
+// Prints the marks of so many columns, nine to a column, which show so many groups, or characters.
+pub(crate) fn print(marks: &[u8], columns: usize, shown: usize, groups: bool)
+    requires { ⌜ (9 * columns ≤ length (now marks)) × (columns ≤ 587) ⌝ }
+{
+    title();
+    let mut from = 0;
+    while from < columns {
+        let count = block(columns - from);
+        let behind = least(first_of(from + count, groups), shown);
+        heading(first_of(from, groups), before(behind), groups);
+        print_rows(marks, from, count, groups);
+        from += count;
+    }
+}
