@@ -1,14 +1,12 @@
 -- The marks, from their parts.
 -- Assumes nothing.
-use Prim.Native.Nat.{ℕ, _+_, _*_, _<_}
-use mathlib.Core.Path.{_≡_, refl, sym, subst}
-use mathlib.Core.Bool.{Bool, true, false, not, _&&_}
+use Prim.Native.Nat.{ℕ, _+_, _*_}
+use mathlib.Core.Path.{_≡_, refl}
+use mathlib.Core.Bool.{Bool, false, not, _&&_}
 use mathlib.Core.List.{List}
-use lib.Dec.{T, eqb}
+use lib.Dec.{eqb}
 use lib.ListN.{length, getD}
 use Rattle.indexed.specs.List.{turnedPlace}
-use Rattle.indexed.specs.Test.{allBelow}
-use Rattle.indexed.proofs.Test.{tested}
 use Rattle.register.specs.Bit.{bit}
 use Rattle.group_code.specs.Word.{forwardWord}
 use Rattle.record6250.specs.Picture.{mapRead}
@@ -26,14 +24,6 @@ module _ (view : View) (words maps right : List ℕ) (g track : ℕ) where
       → m ≡ groupMark view words maps right g track
   unfolding groupMark wordRead mapRead
   group-mark-is at word m pointed illegal changed ha hw hc hp hi hm = rw (hm, hp, hi, hc, hw, ha) refl
-
--- a test that fails at one number below a bound fails below the bound
-pub all-false : (n : ℕ) (p : ℕ → Bool) (k : ℕ) → k < n → p k ≡ false → allBelow n p ≡ false
-all-false n p k h e = by (allBelow n p) refl
-  where
-    by : (b : Bool) → allBelow n p ≡ b → allBelow n p ≡ false
-    by true t = absurd (subst T e (tested n p (subst T (sym t) tt) k h))
-    by false t = t
 
 -- a character's test, from its parts
 pub character-right-is : (backward : Bool) (characters right : List ℕ) (track k at read kept : ℕ)

@@ -2,7 +2,7 @@
 -- twice is as it was. All are computed tests.
 -- Assumes nothing.
 use mathlib.Core.Path.{_≡_, sym, ap, _∙_}
-use mathlib.Core.Bool.{Bool, true, false, cond}
+use mathlib.Core.Bool.{Bool, cond}
 use Prim.Native.Nat.{ℕ, _/_, _%_, _<_}
 use native.Mathlib.Nat.{mod-lt, zero-lt-suc}
 use native.Mathlib.Decide.{decLt}
@@ -12,7 +12,7 @@ use lib.Dec.{eqb, ltb, ltb→lt}
 use lib.ListN.{getD}
 use Rattle.indexed.specs.List.{tabulate, tabulateFrom, firstWhere}
 use Rattle.indexed.proofs.Tabulate.{getD-tabulate}
-use Rattle.indexed.proofs.Test.{tested, equal}
+use Rattle.indexed.proofs.Test.{tested, equal, flag-lt}
 use Rattle.register.specs.Bit.{bit, ofBits}
 use Rattle.group_code.specs.Code.{decoded, legal, wordOf}
 use Rattle.group_code.specs.Word.{legalWord, valueOf, illegality, mirrored, reversedWord, forwardWord, readOf, readings}
@@ -25,11 +25,7 @@ value-lt word = mod-lt _ (zero-lt-suc 255)
 
 pub illegality-lt : (word : ℕ) → illegality word < 2
 unfolding illegality
-illegality-lt word = by (legalWord word)
-  where
-    by : (legal : Bool) → cond legal 0 1 < 2
-    by true = omega arith
-    by false = omega arith
+illegality-lt word = flag-lt (legalWord word)
 
 pub word-lt : (byte : ℕ) → byte < 256 → wordOf byte < 1024
 word-lt byte h = ltb→lt _ 1024 (tested 256 (λ b. ltb (wordOf b) 1024) tt byte h)

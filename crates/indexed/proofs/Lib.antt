@@ -10,3 +10,4 @@ pub mod Blocks
 pub mod Part
 pub mod Map
 pub mod Walk
+pub mod Turned

@@ -1,7 +1,7 @@
 -- From a test that was computed to the fact at each number, and back.
 -- Assumes nothing.
-use mathlib.Core.Path.{_≡_, refl, ap₂, subst}
-use mathlib.Core.Bool.{Bool, true, false, _&&_}
+use mathlib.Core.Path.{_≡_, refl, ap₂, subst, sym}
+use mathlib.Core.Bool.{Bool, true, false, _&&_, cond}
 use Prim.Native.Nat.{ℕ, zero, suc, _<_}
 use native.Mathlib.Nat.{le-refl, not-suc-le-zero}
 use native.Mathlib.Decide.{decLt}
@@ -28,6 +28,19 @@ tested (suc n) p t k h = go (tested n p (both-right (p n) (allBelow n p) t) k) (
 pub all-true : (n : ℕ) (p : ℕ → Bool) → ((k : ℕ) → k < n → p k ≡ true) → allBelow n p ≡ true
 all-true zero p h = refl
 all-true (suc n) p h = ap₂ _&&_ (h n (le-refl (suc n))) (all-true n p (λ k b. h k (omega arith)))
+
+-- a test that fails at one number below a bound fails below the bound
+pub all-false : (n : ℕ) (p : ℕ → Bool) (k : ℕ) → k < n → p k ≡ false → allBelow n p ≡ false
+all-false n p k h e = by (allBelow n p) refl
+  where
+    by : (b : Bool) → allBelow n p ≡ b → allBelow n p ≡ false
+    by true t = absurd (subst T e (tested n p (subst T (sym t) tt) k h))
+    by false t = t
+
+-- a test told as a digit, 0 if it holds
+pub flag-lt : (b : Bool) → cond b 0 1 < 2
+flag-lt true = omega arith
+flag-lt false = omega arith
 
 -- two functions whose values are computed to be equal, of one number, of two and of three
 pub equal : (n : ℕ) (f g : ℕ → ℕ) → T (allBelow n (λ k. eqb (f k) (g k))) → (k : ℕ) → k < n → f k ≡ g k

@@ -14,10 +14,6 @@ use Rattle.record6250.specs.Group.{isCorrected, reasonOf}
 use Rattle.record6250.specs.Read.{judgement, firstUnfit, readBody, readData, changes, paddingSuits, judgedAnswer}
 use Rattle.indexed.proofs.Below.{first-below-le}
 
--- no answer is both
-pub not-both : (values : List ℕ) (n p : ℕ) → delivered values ≡ refused n p → ⊥
-not-both values n p e = let z : _≡_ {A = ℕ} 0 1 = cc in omega arith
-
 module _ (backward : Bool) (words maps : List ℕ) where
   -- the first unfit group, and the two answers that depend on the reading
   abbrev pub unfit : ℕ

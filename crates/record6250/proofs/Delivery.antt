@@ -18,9 +18,9 @@ use Rattle.record6250.specs.Fits.{Passes}
 use Rattle.record6250.specs.Group.{stray, isCorrected, reasonOf}
 use Rattle.record6250.specs.Read.{lengthsSuit, lastByte, paddingSuits, unpadded, readGroup, readMap, judgement, firstStray, firstUnfit, readBody, readData, changes, judgedAnswer, readAnswer}
 use Rattle.record6250.specs.Told.{scanAnswer, paddingAnswer}
-use Rattle.record6250.proofs.Cases.{not-both}
 use Rattle.record6250.proofs.FittingGroup.{length-rightBytes}
 use Rattle.record6250.proofs.Padding.{last-le}
+use Rattle.answer.proofs.Apart.{not-both}
 
 -- ---- the bytes in front of a body
 

@@ -25,13 +25,14 @@ use Rattle.record6250.specs.Picture.{groupRead, pictureWords}
 use Rattle.record6250.specs.Read.{readGroup, readMap, judgement, changedTracks, firstUnfit, readBody, readData, changes, paddingSuits, unpadded, judgedAnswer}
 use Rattle.record6250.specs.Record.{body, groupsFor, groupBytes, groupWords, firstGroups, writtenRecord}
 use Rattle.record6250.proofs.Bounded.{blocks-bounded}
-use Rattle.record6250.proofs.Cases.{not-both, ThreeCases, cases}
+use Rattle.record6250.proofs.Cases.{ThreeCases, cases}
 use Rattle.record6250.proofs.Changed.{ones-changed}
 use Rattle.indexed.proofs.Below.{first-below-before, first-below-none}
 use Rattle.record6250.proofs.FittingGroup.{length-rightBytes, bytes-of-group, group-complete, corrected-fits}
 use Rattle.record6250.proofs.Padding.{length-body, body-suits, unpadded-body, body-below, length-unpadded, groups-of-unpadded, body-of-unpadded}
 use Rattle.record6250.proofs.Reading.{groups-within, words-below, length-read, length-groupBytes, groupBytes-bounded, unpadded-bounded, written-group}
 use Rattle.record6250.proofs.Words.{length-groupWords}
+use Rattle.answer.proofs.Apart.{not-both}
 
 -- ---- what fits is delivered
 

@@ -31,9 +31,10 @@ use Rattle.record6250.specs.Group.{illegalMap, pointed, judgedGroup, rig
 use Rattle.record6250.specs.Picture.{groupRead, mapRead}
 use Rattle.record6250.specs.Read.{readGroup, readMap, judgement, changedTracks}
 use Rattle.record6250.proofs.FittingGroup.{same-test, group-sound}
-use Rattle.record6250.proofs.Picture.{turned-lt, turned-twice}
 use Rattle.record6250.proofs.Reading.{words-long, words-below}
 use Rattle.record6250.proofs.Scan.{forward-above}
+use Rattle.indexed.proofs.Turned.{turned-lt, turned-twice}
+use Rattle.indexed.proofs.Test.{flag-lt}
 
 -- ---- the lent words have ten bits
 
@@ -127,24 +128,20 @@ changed-word word value right hw hr e = by (ℕ-discrete (illegality word) 0)
         or-one true = refl
         or-one false = refl
 
-bit-flag : (b : Bool) → cond b 0 1 < 2
-bit-flag true = omega arith
-bit-flag false = omega arith
-
 pub changed-words : (ws values right : List ℕ) → ((k : ℕ) → k < 9 → getD ws k 0 < 1024) → ((k : ℕ) → k < 9 → getD right k 0 < 256)
     → length right ≡ 9 → ((k : ℕ) → k < 9 → getD values k 0 ≡ valueOf (getD ws k 0))
     → bitOr (changedMap values right) (illegalMap ws) ≡ changedMap ws (map wordOf right)
 unfolding changedMap illegalMap
 changed-words ws values right hw hr long hv =
     bits-ext 9 _ _
-    (or-lt 9 _ _ (tabulated-lt 9 differs (λ k h. bit-flag (eqb (getD values k 0) (getD right k 0)))) (tabulated-lt 9 marks (λ k h. illegality-lt (getD ws k 0))))
-    (tabulated-lt 9 changed (λ k h. bit-flag (eqb (getD ws k 0) (getD (map wordOf right) k 0))))
+    (or-lt 9 _ _ (tabulated-lt 9 differs (λ k h. flag-lt (eqb (getD values k 0) (getD right k 0)))) (tabulated-lt 9 marks (λ k h. illegality-lt (getD ws k 0))))
+    (tabulated-lt 9 changed (λ k h. flag-lt (eqb (getD ws k 0) (getD (map wordOf right) k 0))))
     (λ k h. bit-or k (ofBits (tabulate 9 differs)) (ofBits (tabulate 9 marks))
-    ∙ ap₂ bitOr (bit-of-tabulate 9 differs (λ k h. bit-flag (eqb (getD values k 0) (getD right k 0))) k h)
+    ∙ ap₂ bitOr (bit-of-tabulate 9 differs (λ k h. flag-lt (eqb (getD values k 0) (getD right k 0))) k h)
     (bit-of-tabulate 9 marks (λ k h. illegality-lt (getD ws k 0)) k h)
     ∙ changed-word (getD ws k 0) (getD values k 0) (getD right k 0) (hw k h) (hr k h) (hv k h)
     ∙ ap (λ (w : ℕ). cond (eqb (getD ws k 0) w) 0 1) (sym (getD-map wordOf right k 0 0 (omega arith)))
-    ∙ sym (bit-of-tabulate 9 changed (λ k h. bit-flag (eqb (getD ws k 0) (getD (map wordOf right) k 0))) k h))
+    ∙ sym (bit-of-tabulate 9 changed (λ k h. flag-lt (eqb (getD ws k 0) (getD (map wordOf right) k 0))) k h))
   where
     differs : ℕ → ℕ
     differs k = cond (eqb (getD values k 0) (getD right k 0)) 0 1

@@ -14,20 +14,11 @@ use Rattle.group_code.specs.Word.{forwardWord}
 use Rattle.group_code.proofs.Words.{reversed-twice}
 use Rattle.record6250.specs.Picture.{groupRead, pictureWords}
 use Rattle.record6250.proofs.Reading.{length-read}
+use Rattle.indexed.proofs.Turned.{turned-lt, turned-twice}
 
 pub length-picture : (backward : Bool) (n : ℕ) (words : List ℕ) → length (pictureWords backward n words) ≡ 9 * n
 unfolding pictureWords
 length-picture backward n words = length-blocks 9 n _ (λ g h. length-read backward n words g)
-
-pub turned-lt : (backward : Bool) (n g : ℕ) → g < n → turnedPlace backward n g < n
-unfolding turnedPlace
-turned-lt true n g h = omega arith
-turned-lt false n g h = h
-
-pub turned-twice : (backward : Bool) (n g : ℕ) → g < n → turnedPlace backward n (turnedPlace backward n g) ≡ g
-unfolding turnedPlace
-turned-twice true n g h = omega arith
-turned-twice false n g h = refl
 
 forward-twice : (backward : Bool) (word : ℕ) → forwardWord backward (forwardWord backward word) ≡ word
 unfolding forwardWord

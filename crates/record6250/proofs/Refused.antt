@@ -16,18 +16,12 @@ use Rattle.record6250.specs.Fits.{Passes, FitsGroup, Fits}
 use Rattle.record6250.specs.Group.{pointed, judgedGroup, isCorrected, reasonOf, rightBytes}
 use Rattle.record6250.specs.Read.{readGroup, readMap, judgement, firstUnfit, judgedAnswer}
 use Rattle.record6250.specs.Record.{groupWords}
-use Rattle.record6250.proofs.Cases.{not-both, ThreeCases, cases}
+use Rattle.record6250.proofs.Cases.{ThreeCases, cases}
 use Rattle.indexed.proofs.Below.{first-below-passes}
 use Rattle.record6250.proofs.Fitting.{refused-none, group-fits}
 use Rattle.record6250.proofs.FittingGroup.{group-complete}
 use Rattle.record6250.proofs.Reading.{words-below}
-
--- the parts of a refusal
-same-number : (a b x y : ℕ) → refused a x ≡ refused b y → a ≡ b
-same-number a b x y e = cc
-
-same-place : (a b x y : ℕ) → refused a x ≡ refused b y → x ≡ y
-same-place a b x y e = cc
+use Rattle.answer.proofs.Apart.{not-both, same-number, same-place}
 
 -- a judgement, by the number of its reason
 is-many : (j : Judgement) → 4 ≡ numberOf (reasonOf j) → j ≡ manyPointed

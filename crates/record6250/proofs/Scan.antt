@@ -3,25 +3,26 @@
 use mathlib.Core.Path.{_≡_, refl, sym, ap, ap₂, subst, _∙_}
 use mathlib.Core.Bool.{Bool, true, false, cond, _&&_, _||_}
 use mathlib.Core.List.{List}
-use Prim.Native.Nat.{ℕ, zero, suc, _+_, _-_, _*_, _<_, _≤_}
+use Prim.Native.Nat.{ℕ, suc, _+_, _-_, _*_, _<_, _≤_}
 use native.Mathlib.Decide.{decLt}
-use native.Mathlib.Nat.{le-trans, lt-of-le-of-lt, mul-comm, not-suc-le-zero}
+use native.Mathlib.Nat.{mul-comm}
 use native.Mathlib.Omega.{arith}
 use borrow.Author.Tests.{lt-ltb, le-ltb, le-leb, lt-leb}
-use lib.Bits.{bitOr, or-add-and, and-le-l, and-le-r}
 use lib.Dec.{ltb, leb, eqb}
 use lib.ListN.{length, getD}
 use Rattle.indexed.specs.List.{turnedPlace}
 use Rattle.indexed.specs.Test.{allBelow}
-use Rattle.indexed.proofs.Test.{all-true}
+use Rattle.indexed.proofs.Test.{all-true, all-false}
 use Rattle.indexed.proofs.Below.{first-below-at, first-below-none, first-below-same}
 use Rattle.indexed.proofs.Tabulate.{getD-tabulate}
+use Rattle.register.specs.Union.{unionOf}
+use Rattle.register.proofs.Or.{below-union}
 use Rattle.group_code.specs.Word.{reversedWord, forwardWord}
 use Rattle.group_code.proofs.Words.{reversed-lt, reversed-above}
 use Rattle.record6250.specs.Group.{stray}
 use Rattle.record6250.specs.Picture.{groupRead, mapRead}
 use Rattle.record6250.specs.Read.{lastByte, paddingSuits, readGroup, readMap, firstStray}
-use Rattle.record6250.specs.Stray.{unionTo, unionOf, strayAt}
+use Rattle.record6250.specs.Stray.{strayAt}
 
 -- what holds below n and at n holds below n + 1
 pub one-more-below : (n : ℕ) (P : ℕ → Type 0) → ((k : ℕ) → k < n → P k) → P n → (k : ℕ) → k < n + 1 → P k
@@ -78,28 +79,6 @@ module _ (backward : Bool) (words maps : List ℕ) where
 
 -- ---- all bits at once
 
-or-above : (a b : ℕ) → a ≤ bitOr a b
-or-above a b = omega (arith, or-add-and a b, and-le-r a b)
-
-or-above-right : (a b : ℕ) → b ≤ bitOr a b
-or-above-right a b = omega (arith, or-add-and a b, and-le-l a b)
-
-pub in-union : (values : List ℕ) (n k : ℕ) → k < n → getD values k 0 ≤ unionTo n values
-unfolding unionTo
-in-union values zero k h = absurd (not-suc-le-zero h)
-in-union values (suc n) k h = by (decLt k n) (in-union values n k)
-  where
-    by : Dec (k < n) → (k < n → getD values k 0 ≤ unionTo n values) → getD values k 0 ≤ bitOr (unionTo n values) (getD values n 0)
-    by (yes b) ih = le-trans (ih b) (or-above (unionTo n values) (getD values n 0))
-    by (no b) ih =
-        let e : k ≡ n = omega arith in
-        rw e (or-above-right (unionTo n values) (getD values n 0))
-
--- no value is above what all of them have
-pub below-union : (values : List ℕ) (limit : ℕ) → unionOf values < limit → (k : ℕ) → k < length values → getD values k 0 < limit
-unfolding unionOf
-below-union values limit h k b = lt-of-le-of-lt (in-union values (length values) k b) h
-
 module _ (backward : Bool) (words maps : List ℕ) (lengths : length words ≡ 9 * length maps) where
   pub place-lt : (g : ℕ) → g < length maps → turnedPlace backward (length maps) g < length maps
   unfolding turnedPlace
@@ -123,18 +102,6 @@ module _ (backward : Bool) (words maps : List ℕ) (lengths : length words ≡ 9
       le-of-lt-suc' h = omega arith
 
 -- ---- the padding rule
-
-all-false : (n : ℕ) (p : ℕ → Bool) (k : ℕ) → k < n → p k ≡ false → allBelow n p ≡ false
-all-false zero p k h e = absurd (not-suc-le-zero h)
-all-false (suc n) p k h e = by (decLt k n) (all-false n p k)
-  where
-    by : Dec (k < n) → (k < n → p k ≡ false → allBelow n p ≡ false) → p n && allBelow n p ≡ false
-    by (yes b) ih = ap (λ (t : Bool). p n && t) (ih b e) ∙ and-false (p n)
-      where
-        and-false : (t : Bool) → t && false ≡ false
-        and-false true = refl
-        and-false false = refl
-    by (no b) ih = let m : k ≡ n = omega arith in ap (λ (t : Bool). t && allBelow n p) (sym (ap p m) ∙ e)
 
 module _ (bytes : List ℕ) where
   pub last-above : 6 < lastByte bytes → paddingSuits bytes ≡ false

@@ -1,23 +1,11 @@
 // Stray bits: words of more than ten bits, maps of more than nine.
+use register::union;
 ghost use mathlib.Core.Path.{_≡_};
 ghost use Prim.Native.Nat.{_+_, _*_, _<_, _≤_};
 ghost use lib.ListN.{length};
 ghost use Rattle.indexed.specs.List.{turnedPlace};
 ghost use Rattle.record6250.specs.Read.{firstStray};
-ghost use Rattle.record6250.specs.Stray.{unionOf, strayAt};
-
-// The bits that stand in any of the values.
-fn union(values: &[u16]) -> u16
-    ensures { λ r. ⌜ r ≡ unionOf (now (values .entry)) ⌝ }
-{
-    let mut bits: u16 = 0;
-    let mut k = 0;
-    while k < values.len() {
-        bits = bits | values[k];
-        k += 1;
-    }
-    bits
-}
+ghost use Rattle.record6250.specs.Stray.{strayAt};
 
 // Whether one of nine words from an index on, or the map, has a stray bit.
 fn is_stray(words: &[u16], at: usize, map: u16) -> bool

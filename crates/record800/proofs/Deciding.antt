@@ -25,11 +25,14 @@ use Rattle.cyclic.proofs.Constants.{exponent-of-X}
 use Rattle.record800.specs.Fits.{Passes}
 use Rattle.record800.specs.Read.{picture, wrong, checkRead, errorPattern, longitudinalRead, wrongParity, wrongCount, candidate, holds, oneOf, judgedAnswer, judgedData, lengthSuits, firstStray, readAnswer}
 use Rattle.record800.specs.Record.{checkSum}
-use Rattle.record800.specs.Told.{storedData}
+use Rattle.record800.specs.Told.{GatheredAre, FoundIs, storedData}
+use Rattle.record800.specs.declared.reader.Found.{Found}
+use Rattle.record800.specs.declared.reader.Gathered.{Gathered}
 use Rattle.record800.proofs.Candidate.{wrong-lt, none-wrong, candidate-same}
-use Rattle.record800.proofs.Judged.{not-both, Judged, clean, one, several, none, judged, data-first, data-only}
+use Rattle.record800.proofs.Judged.{Judged, clean, one, several, none, judged, data-first, data-only}
 use Rattle.record800.proofs.Picture.{length-picture}
 use Rattle.record800.proofs.Registers.{sum-fits}
+use Rattle.answer.proofs.Apart.{not-both}
 
 -- the parity of a count of digits
 half-step : (t d : ℕ) → d < 2 → (t % 2) ⊕ d ≡ (t + d) % 2
@@ -41,7 +44,7 @@ sum-of-digits zero d h = refl
 sum-of-digits (suc m) d h = ap (λ (x : ℕ). x ⊕ d m) (sum-of-digits m d h) ∙ half-step (total m d) (d m) (h m)
 
 module _ (n : ℕ) (l : List ℕ) where
-  pub parity-of-count : wrongParity n l ≡ wrongCount n l % 2
+  parity-of-count : wrongParity n l ≡ wrongCount n l % 2
   unfolding wrongParity wrongCount
   parity-of-count = sum-of-digits (n + 2) (wrong n l) (wrong-lt n l)
 
@@ -106,13 +109,12 @@ module _ (n : ℕ) (l : List ℕ) where
     one-answer e = kept-answer ∙ by-count (keep (holds n l) (below 9)) .2 e
 
   -- the tracks that the code tries are those that hold
-  pub tried-holds : (check pattern longitudinal odd : ℕ) → check ≡ checkRead n l → pattern ≡ errorPattern n l
-      → longitudinal ≡ longitudinalRead n l → odd ≡ wrongParity n l
-      → keep (λ j. eqb (check ⊕ shifts 9 feedback j pattern) offset && eqb longitudinal (odd * 2 ^ j)) (below 9) ≡ keep (holds n l) (below 9)
+  pub found-hold : (sums : Gathered) (pattern : ℕ) (found : Found) → GatheredAre sums n l → pattern ≡ shifts 9 feedback 9 (sums .error)
+      → FoundIs found (keep (λ j. eqb (sums .check ⊕ shifts 9 feedback j pattern) offset && eqb (sums .longitudinal) (sums .wrong % 2 * 2 ^ j)) (below 9))
+      → FoundIs found (keep (holds n l) (below 9))
   unfolding holds
-  tried-holds check pattern longitudinal odd c p g o =
-      ap₂ (λ (a b : ℕ). keep (λ j. eqb (a ⊕ shifts 9 feedback j b) offset && eqb longitudinal (odd * 2 ^ j)) (below 9)) c p
-      ∙ ap₂ (λ (a b : ℕ). keep (λ j. eqb (checkRead n l ⊕ shifts 9 feedback j (errorPattern n l)) offset && eqb a (b * 2 ^ j)) (below 9)) g o
+  found-hold sums pattern found are is tried =
+      simp (are .0, is ∙ pattern-back (sums .error) (are .1), are .2, ap (λ (w : ℕ). w % 2) (are .3) ∙ sym parity-of-count) at tried
 
   -- ---- the data of a delivery are those of the track that it tells
 

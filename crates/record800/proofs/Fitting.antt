@@ -32,8 +32,9 @@ use Rattle.record800.specs.Record.{checkSum, writtenRecord}
 use Rattle.record800.proofs.Apart.{other-bit, change-counted, change-counted-bit, one-apart}
 use Rattle.record800.proofs.Candidate.{wrong-lt, candidate-same, candidate-written, sums-hold, tracks-apart}
 use Rattle.record800.proofs.Recorded.{length-record, record-lt, record-check-sum, record-longitudinal-sum, record-parity, bytes-back}
-use Rattle.record800.proofs.Judged.{Judged, clean, one, several, none, judged, not-both, bytesOf, data-first, data-only}
+use Rattle.record800.proofs.Judged.{Judged, clean, one, several, none, judged, bytesOf, data-first, data-only}
 use Rattle.record800.proofs.Picture.{lengths-within, as-counted, picture-below}
+use Rattle.answer.proofs.Apart.{not-both}
 
 module _ (backward : Bool) (characters : List ℕ) (passes : Passes backward characters) where
   -- the number of data characters, and the forward picture

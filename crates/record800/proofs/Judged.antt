@@ -16,16 +16,6 @@ use Rattle.indexed.proofs.Keep.{Kept, kept-below}
 use Rattle.record800.specs.Read.{wrongCount, candidate, holds, oneOf, judgedAnswer, judgedData}
 use Rattle.record800.proofs.Candidate.{holds-same}
 
--- no answer is both, and the parts of a refusal
-pub not-both : (values : List ℕ) (n p : ℕ) → delivered values ≡ refused n p → ⊥
-not-both values n p e = let z : _≡_ {A = ℕ} 0 1 = cc in omega arith
-
-pub same-number : (a b x y : ℕ) → refused a x ≡ refused b y → a ≡ b
-same-number a b x y e = cc
-
-pub same-place : (a b x y : ℕ) → refused a x ≡ refused b y → x ≡ y
-same-place a b x y e = cc
-
 module _ (n : ℕ) (l : List ℕ) where
   -- no parity is wrong, and the reading is a written record; or some are, and one track holds, or several do; or none holds
   pub data Judged (answer : Answer) : Type 0 where

@@ -1,34 +1,28 @@
 -- The forward picture: of a forward reading it is the reading, and a reading turned twice is as it was; and what is known of a reading
 -- that passes.
 -- Assumes nothing.
-use mathlib.Core.Path.{_≡_, refl, ap, _∙_}
-use mathlib.Core.Bool.{Bool, true, false}
+use mathlib.Core.Path.{_≡_, sym, ap, _∙_}
+use mathlib.Core.Bool.{Bool, false}
 use mathlib.Core.List.{List}
 use Prim.Native.Nat.{ℕ, _+_, _-_, _<_, _≤_}
 use native.Mathlib.Decide.{decLt}
+use native.Mathlib.Nat.{le-of-suc-le-suc}
 use native.Mathlib.Omega.{arith}
-use borrow.Author.Tests.{leb-true, ltb-false}
+use borrow.Author.Tests.{leb-true, ltb-false, le-ltb}
 use lib.Dec.{leb, ltb}
 use lib.ListN.{length, getD, List·getD-eq-default}
 use lib.Seq.{ext-getD}
 use Rattle.answer.specs.Answer.{firstAbove}
 use Rattle.indexed.specs.List.{turnedPlace}
-use Rattle.indexed.proofs.First.{first-before}
+use Rattle.indexed.proofs.First.{first-none, first-before}
 use Rattle.indexed.proofs.Tabulate.{length-tabulate, getD-tabulate}
+use Rattle.register.specs.Union.{unionOf}
+use Rattle.register.proofs.Or.{below-union}
 use Rattle.record800.specs.Fits.{Passes}
 use Rattle.record800.specs.Read.{picture, lengthSuits, firstStray}
 use Rattle.record800.specs.Record.{mostData}
 use Rattle.record800.proofs.Candidate.{both-true}
-
-turned-lt : (backward : Bool) (n k : ℕ) → k < n → turnedPlace backward n k < n
-unfolding turnedPlace
-turned-lt true n k h = omega arith
-turned-lt false n k h = h
-
-turned-twice : (backward : Bool) (n k : ℕ) → k < n → turnedPlace backward n (turnedPlace backward n k) ≡ k
-unfolding turnedPlace
-turned-twice true n k h = omega arith
-turned-twice false n k h = refl
+use Rattle.indexed.proofs.Turned.{turned-lt, turned-twice}
 
 module _ (backward : Bool) (characters : List ℕ) where
   pub length-picture : length (picture backward characters) ≡ length characters
@@ -39,6 +33,13 @@ module _ (backward : Bool) (characters : List ℕ) where
       → getD (picture backward characters) k 0 ≡ getD characters (turnedPlace backward (length characters) k) 0
   unfolding picture
   getD-picture k h = getD-tabulate (length characters) _ k 0 h
+
+  -- where all bits together are below 512, every character is
+  pub none-stray : unionOf characters < 512 → firstStray backward characters ≡ length characters
+  unfolding firstStray firstAbove
+  none-stray h =
+      first-none (λ v. ltb 511 v) _ _ (sym length-picture)
+      (λ k b. ap (ltb 511) (getD-picture k b) ∙ le-ltb 511 _ (le-of-suc-le-suc (below-union characters 512 h _ (turned-lt backward (length characters) k b))))
 
 pub picture-forward : (characters : List ℕ) → picture false characters ≡ characters
 unfolding turnedPlace

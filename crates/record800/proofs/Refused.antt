@@ -11,7 +11,8 @@ use Rattle.answer.specs.Answer.{refused}
 use Rattle.record800.specs.Fits.{Passes, Fits}
 use Rattle.record800.specs.Read.{picture, judgedAnswer}
 use Rattle.record800.proofs.Fitting.{fits-candidate, candidate-fits, bytes-apart}
-use Rattle.record800.proofs.Judged.{Judged, clean, one, several, none, judged, not-both, same-number, same-place, bytesOf}
+use Rattle.record800.proofs.Judged.{Judged, clean, one, several, none, judged, bytesOf}
+use Rattle.answer.proofs.Apart.{not-both, same-number, same-place}
 
 module _ (backward : Bool) (characters : List ℕ) (passes : Passes backward characters) where
   abbrev n : ℕ

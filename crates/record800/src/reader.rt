@@ -2,19 +2,21 @@
 // stores the data.
 use crate::Figures;
 use crate::Read;
-use crate::character::parity;
+use crate::character::parities;
 use answer::Reason;
 use answer::Refusal;
 use cyclic::Code800;
 use cyclic::shift;
 use cyclic::stepped;
+use register::union;
 ghost use mathlib.Core.Bool.{true, false, cond, _&&_};
 ghost use mathlib.Core.List.{List, [], _∷_, _++_};
 ghost use mathlib.Core.Path.{_≡_};
 ghost use Prim.Native.Nat.{ℕ, _+_, _-_, _*_, _^_, _<_, _≤_};
 ghost use lib.Dec.{eqb};
 ghost use lib.ListN.{length, getD, drop};
-ghost use Rattle.indexed.specs.List.{below, keep};
+ghost use Rattle.indexed.specs.List.{below, keep, tabulate};
+ghost use Rattle.register.specs.Parity.{parity};
 ghost use Rattle.register.specs.Shift.{shifts};
 ghost use Rattle.register.specs.Xor.{_⊕_};
 ghost use Rattle.answer.specs.Answer.{refusedFor, outputAfter};
@@ -50,8 +52,8 @@ fn forward_character(characters: &[u16], backward: bool, k: usize) -> u16
 }
 
 // Gathers the registers and the sums of a reading.
-fn gather(characters: &[u16], backward: bool) -> Gathered
-    requires { ⌜ Passes backward (now characters) ⌝ }
+fn gather(characters: &[u16], backward: bool, parities: &[u16]) -> Gathered
+    requires { ⌜ Passes backward (now characters) × (now parities ≡ tabulate 512 parity) ⌝ }
     ensures { λ r. ⌜ GatheredAre r (length (now (characters .entry)) - 2) (picture backward (now (characters .entry))) ⌝ }
 {
     let n = characters.len() - 2;
@@ -61,16 +63,16 @@ fn gather(characters: &[u16], backward: bool) -> Gathered
     let mut k = 0;
     while k < n {
         let next = forward_character(characters, backward, k);
-        let odd = parity(next) ^ 1;
+        let odd = parities[next as usize] ^ 1;
         registers = stepped(registers, next, odd);
         longitudinal = longitudinal ^ next;
         wrong += odd as usize;
         k += 1;
     }
     let check = forward_character(characters, backward, n);
-    let odd_check = parity(check) ^ (((n + 1) % 2) as u16);
+    let odd_check = parities[check as usize] ^ (((n + 1) % 2) as u16);
     let last = forward_character(characters, backward, n + 1);
-    let odd_last = parity(last) ^ 1;
+    let odd_last = parities[last as usize] ^ 1;
     let entered = stepped(registers, check, odd_check);
     Gathered {
         check: entered.check,
@@ -146,12 +148,12 @@ fn refused(reason: Reason, place: usize) -> Read
 }
 
 // Decides by the sums which record fits.
-fn decided(characters: &[u16], backward: bool) -> Read
-    requires { ⌜ Passes backward (now characters) ⌝ }
+fn decided(characters: &[u16], backward: bool, parities: &[u16]) -> Read
+    requires { ⌜ Passes backward (now characters) × (now parities ≡ tabulate 512 parity) ⌝ }
     ensures { λ r. ⌜ toldRead r ≡ judgedAnswer (length (now (characters .entry)) - 2) (picture backward (now (characters .entry))) ⌝ }
 {
     let n = characters.len() - 2;
-    let gathered = gather(characters, backward);
+    let gathered = gather(characters, backward, parities);
     if gathered.wrong == 0 {
         if agree(gathered.check, gathered.longitudinal, 0) {
             return Read::Delivered(Figures {
@@ -179,24 +181,28 @@ fn decided(characters: &[u16], backward: bool) -> Read
 }
 
 // Stores the data of the record that differs from the reading in a track.
-fn store(characters: &[u16], backward: bool, track: usize, output: &mut [u8])
-    requires { ⌜ Passes backward (now characters) × (track < 10) × (length (now characters) - 2 ≤ length (now output)) ⌝ }
+fn store(characters: &[u16], backward: bool, track: usize, parities: &[u16], output: &mut [u8])
+    requires { ⌜ Passes backward (now characters) × (track < 10) × (length (now characters) - 2 ≤ length (now output)) × (now parities ≡ tabulate 512 parity) ⌝ }
     ensures { λ _. ⌜ now (output .exit) ≡ storedData (length (now (characters .entry)) - 2) (picture backward (now (characters .entry))) track ++ drop (length (now (characters .entry)) - 2) (now (output .entry)) ⌝ }
 {
     let n = characters.len() - 2;
     let mut k = 0;
     while k < n {
         let next = forward_character(characters, backward, k);
-        let odd = parity(next) ^ 1;
+        let odd = parities[next as usize] ^ 1;
         output[k] = ((next ^ (odd << track)) % 256) as u8;
         k += 1;
     }
 }
 
-// The first character above 511 of the forward picture, or the number of characters.
+// The first character above 511 of the forward picture, or the number of characters. Where none is, as a
+// rule, that is seen from all characters at once.
 fn first_stray(characters: &[u16], backward: bool) -> usize
     ensures { λ r. ⌜ r ≡ firstStray backward (now (characters .entry)) ⌝ }
 {
+    if union(characters) < 512 {
+        return characters.len();
+    }
     let mut k = 0;
     while k < characters.len() {
         if forward_character(characters, backward, k) > 511 {
@@ -233,9 +239,10 @@ fn read(characters: &[u16], backward: bool, output: &mut [u8]) -> Read
     if stray < count {
         return refused(Reason::StrayBits, stray);
     }
-    match decided(characters, backward) {
+    let table = parities();
+    match decided(characters, backward, &table) {
         Read::Delivered(figures) => {
-            store(characters, backward, figures.track, output);
+            store(characters, backward, figures.track, &table, output);
             Read::Delivered(figures)
         }
         Read::Refused(refusal) => Read::Refused(refusal),

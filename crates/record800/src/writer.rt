@@ -1,6 +1,6 @@
 // Writing a record.
 use crate::Written;
-use crate::character::character;
+use crate::character::data_characters;
 use answer::Reason;
 use answer::Refusal;
 use cyclic::Code800;
@@ -8,8 +8,9 @@ use cyclic::shift;
 ghost use mathlib.Core.Path.{_≡_};
 ghost use Prim.Native.Nat.{_+_, _≤_};
 ghost use lib.ListN.{length};
+ghost use Rattle.indexed.specs.List.{tabulate};
 ghost use Rattle.answer.specs.Answer.{outputAfter};
-ghost use Rattle.record800.specs.Record.{writtenRecord};
+ghost use Rattle.record800.specs.Record.{characterOf, writtenRecord};
 ghost use Rattle.record800.specs.Written.{toldWritten, writeAnswer, stored, sumsAre};
 
 // The check register and the exclusive-or of the characters that are stored.
@@ -18,9 +19,9 @@ struct Sums {
     longitudinal: u16,
 }
 
-// Stores the data characters at the front.
-fn write_data(bytes: &[u8], characters: &mut [u16]) -> Sums
-    requires { ⌜ length (now bytes) ≤ length (now characters) ⌝ }
+// Stores the data characters at the front, each by one look-up.
+fn write_data(bytes: &[u8], table: &[u16], characters: &mut [u16]) -> Sums
+    requires { ⌜ (length (now bytes) ≤ length (now characters)) × (now table ≡ tabulate 256 characterOf) ⌝ }
     ensures output { λ _. ⌜ now (characters .exit) ≡ stored (now (bytes .entry)) (now (characters .entry)) ⌝ }
     ensures check { λ r. ⌜ sumsAre r (now (bytes .entry)) ⌝ }
 {
@@ -28,7 +29,7 @@ fn write_data(bytes: &[u8], characters: &mut [u16]) -> Sums
     let mut longitudinal: u16 = 0;
     let mut k = 0;
     while k < bytes.len() {
-        let next = character(bytes[k]);
+        let next = table[bytes[k] as usize];
         characters[k] = next;
         check = shift(check) ^ next;
         longitudinal = longitudinal ^ next;
@@ -64,7 +65,8 @@ pub fn write(bytes: &[u8], characters: &mut [u16]) -> Written
             place: 0,
         });
     }
-    let sums = write_data(bytes, characters);
+    let table = data_characters();
+    let sums = write_data(bytes, &table, characters);
     let check = shift(sums.check) ^ Code800::OFFSET;
     characters[n] = check;
     characters[n + 1] = sums.longitudinal ^ check;

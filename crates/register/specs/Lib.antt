@@ -4,3 +4,4 @@ pub mod Shift
 pub mod Sum
 pub mod Exponent
 pub mod Parity
+pub mod Union

@@ -8,9 +8,9 @@ use borrow.Author.Count.{below-none, below-more}
 use borrow.Author.Needs.{needs}
 use borrow.Author.Tests.{eq-eqb, ne-eqb}
 use Rattle.indexed.specs.Test.{allBelow}
-use Rattle.indexed.proofs.Test.{all-true}
+use Rattle.indexed.proofs.Test.{all-true, all-false}
 use Rattle.bench.specs.Marks.{characterRight, runRight}
-use Rattle.bench.proofs.Marked.{all-false, character-right-is}
+use Rattle.bench.proofs.Marked.{character-right-is}
 use Rattle.bench.proofs.marks.run_right.Statement.{statement}
 use Rattle.bench.proofs.marks.run_right.Tie as tie
 

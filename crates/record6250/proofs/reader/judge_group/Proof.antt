@@ -15,11 +15,11 @@ use Rattle.rectangular.specs.declared.group.Group.{Group}
 use Rattle.record6250.specs.Group.{illegalMap, isCorrected}
 use Rattle.record6250.specs.Received.{receivedValues}
 use Rattle.record6250.proofs.GroupJudged.{lent-below, lent-group, lent-map, value-at, judgement-told, changed-told}
-use Rattle.record6250.proofs.Picture.{turned-lt}
 use Rattle.record6250.proofs.Reading.{words-long, map-below}
 use borrow.Author.Needs.{needs}
 use Rattle.record6250.proofs.reader.judge_group.Statement.{statement}
 use Rattle.record6250.proofs.reader.judge_group.Tie as tie
+use Rattle.indexed.proofs.Turned.{turned-lt}
 
 lent-place-requires : tie.Need-lent-place-requires
 lent-place-requires c κs = search needs

@@ -1,12 +1,10 @@
 -- `record6250::reader::read` meets its contract: each check is the definition's.
 -- Assumes nothing.
-use mathlib.Core.Path.{_≡_, refl, sym, ap, _∙_}
-use mathlib.Core.Bool.{Bool, true, false}
+use mathlib.Core.Path.{sym, ap, _∙_}
 use native.Mathlib.Omega.{arith}
 use denote.Ref.{now}
 use lib.ListN.{length}
 use Rattle.answer.specs.Answer.{Answer, refused, outputAfter}
-use mathlib.Core.Bool.{not}
 use Rattle.answer.specs.declared.Reason.the-variants.{StrayBits}
 use Rattle.answer.specs.Answer.{refusedFor}
 use Rattle.record6250.specs.Read.{readData}
@@ -15,14 +13,7 @@ use Rattle.record6250.proofs.Reading.{lengths-told}
 use borrow.Author.Needs.{needs}
 use Rattle.record6250.proofs.reader.read.Statement.{statement}
 use Rattle.record6250.proofs.reader.read.Tie as tie
-
-not-true : (b : Bool) → not b ≡ true → b ≡ false
-not-true true e = sym e
-not-true false e = refl
-
-not-false : (b : Bool) → not b ≡ false → b ≡ true
-not-false true e = refl
-not-false false e = sym e
+use borrow.Author.Tests.{not-true, not-false}
 
 lengths-suit-requires : tie.Need-lengths-suit-requires
 lengths-suit-requires c κs = search needs

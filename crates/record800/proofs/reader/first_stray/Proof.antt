@@ -4,6 +4,7 @@ use mathlib.Core.Path.{_≡_, sym, ap, _∙_}
 use Prim.Native.Nat.{_-_, _≤_}
 use native.Mathlib.Omega.{arith}
 use borrow.Author.Count.{below-none, below-more}
+use borrow.Author.Needs.{needs}
 use borrow.Author.Tests.{lt-ltb, le-ltb}
 use denote.Ref.{now}
 use lib.Dec.{ltb}
@@ -11,8 +12,7 @@ use lib.ListN.{length}
 use Rattle.indexed.proofs.First.{NoneBelow, first-at, first-none}
 use Rattle.answer.specs.Answer.{firstAbove}
 use Rattle.record800.specs.Read.{picture, firstStray}
-use Rattle.record800.proofs.Picture.{length-picture}
-use borrow.Author.Needs.{needs}
+use Rattle.record800.proofs.Picture.{length-picture, none-stray}
 use Rattle.record800.proofs.reader.first_stray.Statement.{statement}
 use Rattle.record800.proofs.reader.first_stray.Tie as tie
 
@@ -22,20 +22,23 @@ Inv-loop characters backward k₀ k = (k ≤ length characters) × NoneBelow (λ
 abbrev μ-loop : tie.MeasureT-loop
 μ-loop characters backward k₀ k = length characters - k
 
+union-requires : tie.Need-union-requires Inv-loop μ-loop
+union-requires c κs = tt
+
+returns : tie.Need-returns Inv-loop μ-loop
+returns c = sym (none-stray _ _ (rw (← (c .before .union .ensures)) (c .if1 .taken)))
+
 loop-holds : tie.Need-loop-holds Inv-loop μ-loop
 loop-holds c = (search needs, below-none _)
 
 forward-character-requires : tie.Need-forward-character-requires Inv-loop μ-loop
 forward-character-requires c κs = search needs
 
-returns : tie.Need-returns Inv-loop μ-loop
+returns-2 : tie.Need-returns-2 Inv-loop μ-loop
 unfolding firstStray firstAbove
-returns c =
-    let args = c .before .before .before .before .before .args in
-    let at = c .before .before .before .loop in
-    sym (first-at (λ v. ltb 511 v) (picture (args .backward) (now (args .characters))) (at .k)
-    (rw (length-picture (args .backward) (now (args .characters))) (c .before .before .loop-test .taken)) (at .inv .1)
-    (ap (ltb 511) (sym (c .before .forward-character .ensures)) ∙ lt-ltb _ _ (c .if1 .taken)))
+returns-2 c =
+    sym (first-at (λ v. ltb 511 v) _ _ (rw length-picture (c .before .before .loop-test .taken)) (c .before .before .before .loop .inv .1)
+    (ap (ltb 511) (sym (c .before .forward-character .ensures)) ∙ lt-ltb _ _ (c .if2 .taken)))
 
 add-k : tie.Need-add-k Inv-loop μ-loop
 add-k c = search needs
@@ -47,16 +50,15 @@ loop-again : tie.Need-loop-again Inv-loop μ-loop
 loop-again c = (
   search needs,
   below-more _ _ (c .before .before .before .loop .inv .1)
-      (ap (ltb 511) (sym (c .before .forward-character .ensures)) ∙ le-ltb _ _ (c .if1 .left)),
+      (ap (ltb 511) (sym (c .before .forward-character .ensures)) ∙ le-ltb _ _ (c .if2 .left)),
 )
 
-returns-2 : tie.Need-returns-2 Inv-loop μ-loop
+returns-3 : tie.Need-returns-3 Inv-loop μ-loop
 unfolding firstStray firstAbove
-returns-2 c =
-    let args = c .before .before .before .args in
+returns-3 c =
     let at = c .before .loop in
-    let all : at .k ≡ length (now (args .characters)) = omega arith in
-    sym (first-none _ _ _ (all ∙ sym (length-picture (args .backward) (now (args .characters)))) (at .inv .1))
+    let all : at .k ≡ length (now (c .before .before .before .before .before .args .characters)) = omega arith in
+    sym (first-none _ _ _ (all ∙ sym (length-picture _ _)) (at .inv .1))
 
 pub first-stray-spec : {M : Type 1} → statement M
 first-stray-spec =
@@ -64,10 +66,12 @@ first-stray-spec =
     (tie.spec
     Inv-loop
     μ-loop
+    union-requires
+    returns
     loop-holds
     forward-character-requires
-    returns
+    returns-2
     add-k
     loop-less
     loop-again
-    returns-2)
+    returns-3)

@@ -1,0 +1,14 @@
+-- `record800::character::parities` meets its contract: every entry is computed.
+-- Assumes nothing.
+use mathlib.Core.Path.{refl}
+use Rattle.indexed.specs.List.{tabulate, tabulateFrom}
+use Rattle.register.specs.Parity.{parity, parityDigits}
+use Rattle.record800.proofs.character.parities.Statement.{statement}
+use Rattle.record800.proofs.character.parities.Tie as tie
+
+returns : tie.Need-returns
+unfolding tabulate tabulateFrom parity parityDigits
+returns c = refl
+
+pub parities-spec : {M : Type 1} → statement M
+parities-spec = tie.close (tie.spec returns)
