@@ -24,7 +24,7 @@ pub enum Answer {
 
 /// So many records are read one after another, so that no branch is learned by heart.
 const RECORDS: usize = 48;
-const ROUNDS: usize = 400;
+const ROUNDS: usize = 1500;
 
 /// Nanoseconds for one record.
 pub struct Measured {

@@ -3,7 +3,7 @@
 use crate::Measured;
 use std::fmt::Write;
 
-const LEFT: usize = 300;
+const LEFT: usize = 330;
 const WIDTH: usize = 420;
 const ROW: usize = 26;
 const TOP: usize = 64;
