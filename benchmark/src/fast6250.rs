@@ -20,16 +20,17 @@ const fn power(exponent: usize, a: u8) -> u8 {
     value
 }
 
-const fn powers<const N: usize>(backward: bool) -> [[u8; 256]; N] {
-    let mut table = [[0; 256]; N];
-    let mut i = 0;
-    while i < N {
-        let mut x = 0;
-        while x < 256 {
-            table[i][x] = power(if backward { 17 - i } else { i }, x as u8);
-            x += 1;
+/// T^i x, or T^-i x, for i from 0 to 7, at index x.
+const fn powers(backward: bool) -> [[u8; 8]; 256] {
+    let mut table = [[0; 8]; 256];
+    let mut x = 0;
+    while x < 256 {
+        let mut i = 0;
+        while i < 8 {
+            table[x][i] = power(if backward { 17 - i } else { i }, x as u8);
+            i += 1;
         }
-        i += 1;
+        x += 1;
     }
     table
 }
@@ -57,6 +58,16 @@ const fn spread(byte: u8) -> u64 {
         j += 1;
     }
     bits
+}
+
+const fn byte_spreads() -> [u64; 256] {
+    let mut table = [0; 256];
+    let mut byte = 0;
+    while byte < 256 {
+        table[byte] = spread(byte as u8);
+        byte += 1;
+    }
+    table
 }
 
 /// What an information byte contributes to all eight track bytes, the check byte's part included.
@@ -135,8 +146,9 @@ static WORDS: [u16; 256] = words();
 static VALUES: [[u16; 1024]; 2] = [values(false), values(true)];
 static SPREADS: [[u64; 1024]; 2] = [spreads(false), spreads(true)];
 static REDUCTIONS: [u8; 128] = reductions();
-static POWERS: [[u8; 256]; 8] = powers(false);
-static BACK: [[u8; 256]; 8] = powers(true);
+static BYTE_SPREADS: [u64; 256] = byte_spreads();
+static POWERS: [[u8; 8]; 256] = powers(false);
+static BACK: [[u8; 8]; 256] = powers(true);
 static ERASURES: [[u8; 256]; 8] = erasures();
 
 fn store(info: &[u8; 7], words: &mut [u16; 9]) {
@@ -187,59 +199,36 @@ fn stray(words: &[u16], maps: &[u16], backward: bool) -> Option<usize> {
     }
 }
 
-/// Corrects the information bytes, B7 in the highest of eight, of a group that is not clean; the change count, or
-/// the refusal.
-#[cold]
-#[inline(never)]
-fn corrected(words: &[u16; 9], map: u16, direction: usize) -> Result<(u64, usize), u16> {
-    let (mut values, mut pointers, mut illegal) = ([0u8; 9], map, 0u16);
-    for j in 0..9 {
-        let value = VALUES[direction][words[j] as usize];
-        illegal |= (value >> 8) << j;
-        values[j] = value as u8;
+/// The first track in which an error s1 accounts for s2: all are compared, with no branch.
+fn located(s1: u8, s2: u8) -> Option<usize> {
+    let matches = POWERS[s1 as usize].iter().enumerate().fold(0u32, |all, (i, &power)| all | u32::from(power == s2) << i);
+    let track = (matches | u32::from(s2 == 0) << 8).trailing_zeros() as usize;
+    if track < 9 {
+        Some(track)
+    } else {
+        None
     }
-    pointers |= illegal;
-    let (mut s1, mut s2) = (values[8], 0);
-    for j in 0..8 {
-        s1 ^= values[j];
-        s2 ^= POWERS[j][values[j] as usize];
-    }
-    let mut change = [(8, 0), (8, 0)];
-    match pointers.count_ones() {
-        0 => {
-            let track = (0..8).find(|&i| POWERS[i][s1 as usize] == s2);
-            change[0] = match track {
-                Some(i) => (i, s1),
-                None if s2 == 0 => (8, s1),
-                None => return Err(5),
-            };
-        }
-        1 => {
-            let i = pointers.trailing_zeros() as usize;
-            if s2 != if i < 8 { POWERS[i][s1 as usize] } else { 0 } {
-                return Err(5);
-            }
-            change[0] = (i, s1);
-        }
-        2 => {
-            let i = pointers.trailing_zeros() as usize;
-            let j = 15 - pointers.leading_zeros() as usize;
-            let both = s1 ^ BACK[i][s2 as usize];
-            let second = if j < 8 { ERASURES[j - i][both as usize] } else { both };
-            change = [(i, s1 ^ second), (j, second)];
-        }
-        _ => return Err(4),
-    }
-    for (track, error) in change {
-        values[track] ^= error;
-        illegal |= u16::from(error != 0) << track;
-    }
-    let tracks = (0..8).fold(0, |sum, j| sum | spread_slow(values[j]) << j);
-    Ok((tracks, illegal.count_ones() as usize))
 }
 
-fn spread_slow(byte: u8) -> u64 {
-    SPREADS[0][WORDS[byte as usize] as usize]
+/// The errors in two tracks, of which the second may be none, or the refusal.
+fn errors(pointers: u16, s1: u8, s2: u8) -> Result<[(usize, u8); 2], u16> {
+    let first = pointers.trailing_zeros() as usize;
+    match pointers.count_ones() {
+        0 => located(s1, s2).map(|track| [(track, s1), (8, 0)]).ok_or(5),
+        1 if s2 == if first < 8 { POWERS[s1 as usize][first] } else { 0 } => Ok([(first, s1), (8, 0)]),
+        1 => Err(5),
+        2 => {
+            let second = 15 - pointers.leading_zeros() as usize;
+            let both = s1 ^ BACK[s2 as usize][first];
+            let error = if second < 8 { ERASURES[second - first][both as usize] } else { both };
+            Ok([(first, s1 ^ error), (second, error)])
+        }
+        _ => Err(4),
+    }
+}
+
+fn illegal_map(words: &[u16; 9], direction: usize) -> u16 {
+    (0..9).fold(0, |map, j| map | (VALUES[direction][words[j] as usize & 1023] >> 8) << j)
 }
 
 #[inline(always)]
@@ -260,13 +249,18 @@ fn read_groups<const BACKWARD: bool>(words: &[u16], maps: &[u16], body: &mut [u8
             illegal |= value;
         }
         let value = VALUES[direction][from[8] as usize & 1023];
-        let s1 = (parity ^ value) & 255;
+        let s1 = (parity ^ value) as u8;
         let s2 = sum as u8 ^ REDUCTIONS[(sum >> 8) as usize & 127];
-        if (illegal | value) >> 8 | s1 | u16::from(s2) | maps[place] != 0 {
-            match corrected(from, maps[place], direction) {
-                Ok((right, count)) => {
-                    columns = right;
-                    changes += count;
+        illegal = (illegal | value) >> 8;
+        if illegal | u16::from(s1 | s2) | maps[place] != 0 {
+            let mut changed = if illegal == 0 { 0 } else { illegal_map(from, direction) };
+            match errors(maps[place] | changed, s1, s2) {
+                Ok(pair) => {
+                    for (track, error) in pair {
+                        columns ^= if track < 8 { BYTE_SPREADS[error as usize] << track } else { 0 };
+                        changed |= u16::from(error != 0) << track;
+                    }
+                    changes += changed.count_ones() as usize;
                 }
                 Err(number) => return Err(Answer::Refused(number, g)),
             }

@@ -11,7 +11,6 @@ use Rattle.indexed.specs.List.{tabulate}
 use Rattle.indexed.proofs.Tabulate.{getD-tabulate}
 use Rattle.register.specs.Bit.{bit}
 use Rattle.register.proofs.Bit.{bit-shr, bit-mod}
-use Rattle.register.proofs.Expand.{bits-ext}
 use Rattle.rectangular.specs.Packed.{byteAt, bytesOf}
 
 pub bit-byte : (x j r : ℕ) → r < 8 → bit r (byteAt j x) ≡ bit (8 * j + r) x
@@ -41,17 +40,3 @@ byte-of x f e k h =
     sym (getD-tabulate 8 (λ j. byteAt j x) k 0 h)
     ∙ ap (λ (l : List ℕ). getD l k 0) e
     ∙ getD-tabulate 8 f k 0 h
-
--- two numbers of the same eight bytes are equal
-pub bytes-ext : (x y : ℕ) → x < 2 ^ 64 → y < 2 ^ 64 → ((k : ℕ) → k < 8 → byteAt k x ≡ byteAt k y) → x ≡ y
-bytes-ext x y hx hy same = bits-ext 64 x y hx hy by
-  where
-    by : (n : ℕ) → n < 64 → bit n x ≡ bit n y
-    by n h =
-        let parts : n ≡ 8 * (n / 8) + n % 8 = omega arith in
-        let low : n % 8 < 8 = omega arith in
-        ap (λ (m : ℕ). bit m x) parts
-        ∙ sym (bit-byte x (n / 8) (n % 8) low)
-        ∙ ap (bit (n % 8)) (same (n / 8) (omega arith))
-        ∙ bit-byte y (n / 8) (n % 8) low
-        ∙ sym (ap (λ (m : ℕ). bit m y) parts)

@@ -184,7 +184,3 @@ group-of-list w f positive fits values long g =
   where
     info : List ℕ
     info = informationOf w (λ k. getD values k 0)
-
-pub list-of-group : (w f : ℕ) → 0 < w → f < 2 ^ w → (info : List ℕ) → Below w info → IsGroup w f (λ k. getD (group w f info) k 0)
-list-of-group w f positive fits info below =
-    group-ext w f (track w f info) _ (λ k h. sym (getD-group w f info k h)) (written-is-group w f positive fits info below)

@@ -4,11 +4,11 @@ use mathlib.Core.Path.{_≡_, sym, ap, _∙_}
 use mathlib.Core.List.{List}
 use Prim.Native.Nat.{ℕ, _+_, _*_, _/_, _%_, _^_, _<_}
 use native.Mathlib.Nat.{mod-eq-of-lt, zero-mul, one-mul}
-use native.Mathlib.Omega.{arith}
 use lib.Bits.{bitAnd, and-comm, and-mask, and-shr, and-mod}
-use Rattle.indexed.specs.List.{tabulate, tabulateFrom}
-use Rattle.indexed.proofs.Test.{equal₂}
-use Rattle.register.specs.Bit.{bit, ofBits}
+use Rattle.indexed.specs.List.{tabulate}
+use lib.Dec.{ltb, ltb→lt}
+use Rattle.indexed.proofs.Test.{tested, equal₂}
+use Rattle.register.specs.Bit.{bit}
 use Rattle.register.specs.Shift.{shifts}
 use Rattle.register.proofs.Bit.{bit-lt}
 use Rattle.register.proofs.Linear.{Linear, linear-expanded}
@@ -16,40 +16,29 @@ use Rattle.register.proofs.Shift.{shifts-xor}
 use Rattle.register.proofs.Sum.{sum-ext, sum-xor}
 use Rattle.register.proofs.Xor.{digit-ind}
 use Rattle.rectangular.specs.Correction.{erasure}
-use Rattle.rectangular.specs.Group.{column}
 use Rattle.rectangular.specs.Packed.{byteAt, bytesOf, parityByte, productOf}
-use Rattle.rectangular.proofs.Bytes.{byte-lt, byte-of, bytes-ext}
+use Rattle.rectangular.proofs.Bytes.{byte-lt, byte-of}
 
 -- ---- masks
 
--- bit j of a byte, in bit 8j
-abbrev pub spreadOf : ℕ → ℕ
-spreadOf b =
-    b % 2
-    + b / 2 % 2 * 256
-    + b / 4 % 2 * 65536
-    + b / 8 % 2 * 16777216
-    + b / 16 % 2 * 4294967296
-    + b / 32 % 2 * 1099511627776
-    + b / 64 % 2 * 281474976710656
-    + b / 128 % 2 * 72057594037927936
+-- the steps of the code: each bit alone in a byte, made the highest there, and a mask. Tests of every byte.
+unfoldable pub alone : ℕ → ℕ
+alone x = bitAnd (x * 72340172838076673) 9241421688590303745
 
--- rows and columns of one byte exchanged: its bits spread. A test of every byte.
-spread-column : (x j : ℕ) → x < 256 → j < 8 → byteAt j (spreadOf x) ≡ column 8 (λ i. byteAt i x) j
-unfolding byteAt column tabulate tabulateFrom ofBits bit
-spread-column = equal₂ 256 8 (λ x j. byteAt j (spreadOf x)) (λ x j. column 8 (λ i. byteAt i x) j) tt
+unfoldable pub highest : ℕ → ℕ
+highest x = bitAnd (alone x + 18120434683510399) 9259542123273814144
 
-pub masks-fit : (x : ℕ) → spreadOf x * 255 < 2 ^ 64
-masks-fit x = omega arith
+pub alone-fits : (x : ℕ) → x < 256 → alone x + 18120434683510399 < 2 ^ 64
+unfolding alone
+alone-fits x h = ltb→lt _ _ (tested 256 (λ x. ltb (alone x + 18120434683510399) (2 ^ 64)) tt x h)
 
-pub transposed-byte : (x r : ℕ) → x < 256 → r < 2 ^ 64 → bytesOf r ≡ tabulate 8 (column 8 (λ j. byteAt j x)) → r ≡ spreadOf x
-transposed-byte x r hx hr e =
-    bytes-ext r (spreadOf x) hr (omega (arith, masks-fit x))
-    (λ k h. byte-of r (column 8 (λ j. byteAt j x)) e k h ∙ sym (spread-column x k hx h))
+pub masks-fit : (x : ℕ) → x < 256 → highest x / 2 ^ 7 * 255 < 2 ^ 64
+unfolding highest alone
+masks-fit x h = ltb→lt _ _ (tested 256 (λ x. ltb (highest x / 2 ^ 7 * 255) (2 ^ 64)) tt x h)
 
-mask-byte : (x k : ℕ) → x < 256 → k < 8 → byteAt k (spreadOf x * 255) ≡ bit k x * 255
-unfolding byteAt bit
-mask-byte = equal₂ 256 8 (λ x k. byteAt k (spreadOf x * 255)) (λ x k. bit k x * 255) tt
+mask-byte : (x k : ℕ) → x < 256 → k < 8 → byteAt k (highest x / 2 ^ 7 * 255) ≡ bit k x * 255
+unfolding byteAt bit highest alone
+mask-byte = equal₂ 256 8 (λ x k. byteAt k (highest x / 2 ^ 7 * 255)) (λ x k. bit k x * 255) tt
 
 and-byte : (k a b : ℕ) → byteAt k (bitAnd a b) ≡ bitAnd (byteAt k a) (byteAt k b)
 unfolding byteAt
@@ -62,11 +51,11 @@ masked d b hd hb =
     digit-ind (λ (d : ℕ). bitAnd (d * 255) b ≡ d * b) (sym (zero-mul b))
     (and-comm 255 b ∙ and-mask b 8 ∙ mod-eq-of-lt hb ∙ sym (one-mul b)) d hd
 
-pub masks-pick : (columns x : ℕ) → x < 256 → parityByte (bitAnd (spreadOf x * 255) columns) ≡ productOf columns x
+pub masks-pick : (columns x : ℕ) → x < 256 → parityByte (bitAnd (highest x / 2 ^ 7 * 255) columns) ≡ productOf columns x
 unfolding parityByte productOf
 masks-pick columns x h =
     sum-ext 8 _ _
-    (λ k b. and-byte k (spreadOf x * 255) columns
+    (λ k b. and-byte k (highest x / 2 ^ 7 * 255) columns
     ∙ ap (λ (m : ℕ). bitAnd m (byteAt k columns)) (mask-byte x k h b)
     ∙ masked (bit k x) (byteAt k columns) (bit-lt k x) (byte-lt k columns))
 

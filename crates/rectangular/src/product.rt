@@ -2,7 +2,6 @@
 // 000, which give the errors of two tracks. A matrix is its eight columns in one number, column k, which
 // is the product with 2^k, in byte k.
 use crate::group::parity;
-use crate::transpose::transposed;
 ghost use mathlib.Core.Path.{_≡_};
 ghost use Prim.Native.Nat.{_-_, _^_, _<_, _≤_};
 ghost use Rattle.indexed.specs.List.{tabulate};
@@ -11,12 +10,14 @@ ghost use Rattle.rectangular.specs.Constants.{feedback, exponent};
 ghost use Rattle.rectangular.specs.Correction.{erasure};
 ghost use Rattle.rectangular.specs.Packed.{bytesOf, productOf};
 
-// A matrix times a byte: the sum of the columns that the ones of x pick. The bits of x come to stand
-// alone in a byte each, and times 255 they are masks of whole columns.
+// A matrix times a byte: the sum of the columns that the ones of x pick. Bit k of x comes to stand alone in
+// byte k, where an addition makes it the highest bit of that byte; times 255 it is the mask of a whole column.
 fn applied(columns: u64, x: u8) -> u8
     ensures { λ r. ⌜ r ≡ productOf columns x ⌝ }
 {
-    let masks = transposed(x as u64) * 255;
+    let alone = ((x as u64) * 0x0101010101010101) & 0x8040201008040201;
+    let highest = (alone + 0x00406070787C7E7F) & 0x8080808080808080;
+    let masks = (highest >> 7) * 255;
     parity(masks & columns)
 }
 

@@ -1,36 +1,28 @@
 -- `rectangular::product::applied` meets its contract: masks pick the columns, and folding adds them.
 -- Assumes nothing.
-use mathlib.Core.Path.{_≡_, ap, _∙_}
-use Prim.Native.Nat.{ℕ, _*_, _^_, _<_}
+use mathlib.Core.Path.{_∙_}
 use borrow.Author.Needs.{needs}
-use lib.Bits.{bitAnd}
-use Rattle.rectangular.specs.Packed.{parityByte}
-use Rattle.rectangular.proofs.Matrix.{spreadOf, transposed-byte, masks-fit, masks-pick}
+use Rattle.rectangular.proofs.Matrix.{alone, highest, alone-fits, masks-fit, masks-pick}
 use Rattle.rectangular.proofs.product.applied.Statement.{statement}
 use Rattle.rectangular.proofs.product.applied.Tie as tie
 
-transposed-requires : tie.Need-transposed-requires
-transposed-requires c κs = search needs
+mul-alone : tie.Need-mul-alone
+mul-alone c = search needs
+
+add-highest : tie.Need-add-highest
+unfolding alone
+add-highest c = record { fits = alone-fits (c .args .x) (search needs) }
 
 mul-masks : tie.Need-mul-masks
-mul-masks c =
-    let x = c .before .args .x in
-    let spread : c .transposed .result ≡ spreadOf x =
-    transposed-byte x (c .transposed .result) (search needs) (search needs) (c .transposed .ensures) in
-    let fits : c .transposed .result * 255 < 2 ^ 64 = rw spread (masks-fit x) in
-    search needs
+unfolding highest alone
+mul-masks c = record { fits = masks-fit (c .args .x) (search needs) }
 
 parity-requires : tie.Need-parity-requires
 parity-requires c κs = search needs
 
 returns : tie.Need-returns
-returns c =
-    let args = c .before .before .args in
-    let found = c .before .transposed in
-    c .parity .ensures
-    ∙ ap (λ (s : ℕ). parityByte (bitAnd (s * 255) (args .columns)))
-    (transposed-byte (args .x) (found .result) (search needs) (search needs) (found .ensures))
-    ∙ masks-pick (args .columns) (args .x) (search needs)
+unfolding highest alone
+returns c = c .parity .ensures ∙ masks-pick (c .before .args .columns) (c .before .args .x) (search needs)
 
 pub applied-spec : {M : Type 1} → statement M
-applied-spec = tie.close (tie.spec transposed-requires mul-masks parity-requires returns)
+applied-spec = tie.close (tie.spec mul-alone add-highest mul-masks parity-requires returns)
