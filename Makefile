@@ -1,6 +1,6 @@
 # make run        build the proved library and show it at work on an example
 # make test       the gate: every proof, every must-fail edit, every test
-# make benchmark  how fast every call is, beside Rust written for speed and beside memcpy
+# make benchmark  how fast the calls are, beside Rust written for speed and beside memcpy
 .PHONY: run test benchmark
 
 ARCHIVE := target/staticlib/librindthok.a
@@ -26,6 +26,6 @@ $(ARCHIVE): $(SOURCES)
 $(PROGRAMS) &: $(SOURCES)
 	rt check listing bench
 
-# How fast every call is, beside an implementation in Rust and beside memcpy; draws docs/benchmark.svg.
+# How fast the calls are, beside an implementation in Rust and beside memcpy; draws docs/benchmark.svg.
 benchmark: $(ARCHIVE)
 	cargo run --release --offline --quiet --manifest-path benchmark/Cargo.toml -- docs/benchmark.svg

@@ -5,7 +5,8 @@
  * A refusal leaves every output as it was. A delivery writes its result at the front of the output
  * and nothing behind it. That is proved of the library, with the contracts of crates/rindthok.
  *
- * The caller passes pointers that hold for the lengths beside them, and slices that do not overlap.
+ * The caller passes valid pointers, each of which holds for the length beside it; what is written through one,
+ * outputs and single numbers alike, overlaps nothing else that is passed.
  */
 #ifndef RINDTHOK_H
 #define RINDTHOK_H
