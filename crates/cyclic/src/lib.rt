@@ -28,15 +28,6 @@ impl Code800 {
     {
         Code800 { check: 0, error: 0 }
     }
-    // One shift of each: X times the register.
-    pub fn shifted(self) -> Code800
-        ensures { λ r. ⌜ (r .check ≡ timesX (self .check)) × (r .error ≡ timesX (self .error)) ⌝ }
-    {
-        Code800 {
-            check: shift(self.check),
-            error: shift(self.error),
-        }
-    }
 
     // One step (document 003, figure 1): both registers are shifted, the character is added to the first
     // and, if its parity is wrong, X^8 to the second.

@@ -13,7 +13,11 @@ use Rattle.indexed.specs.List.{tabulate}
 use Rattle.indexed.proofs.Tabulate.{length-tabulate, tabulate-last}
 use Rattle.register.specs.Bit.{ofBits}
 use Rattle.rectangular.specs.Packed.{byteAt}
-use Rattle.record6250.specs.Received.{packed}
+
+-- numbers of s bits in one, number i in bits s i to s i + s - 1
+unfoldable pub packed : ℕ → ℕ → (ℕ → ℕ) → ℕ
+packed s zero v = zero
+packed s (suc n) v = packed s n v + v n * 2 ^ (s * n)
 
 module _ (v : ℕ → ℕ) where
   pub packed-lt : (n : ℕ) → ((i : ℕ) → i < n → v i < 256) → packed 8 n v < 2 ^ (8 * n)

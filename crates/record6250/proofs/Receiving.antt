@@ -21,9 +21,9 @@ use Rattle.group_code.specs.Word.{valueOf, illegality, forwardWord, readOf, rea
 use Rattle.group_code.proofs.Words.{value-lt, illegality-lt, getD-readings, read-value, read-mark}
 use Rattle.rectangular.specs.Packed.{byteAt, valuesOf, placedAt}
 use Rattle.record6250.specs.Group.{illegalMap}
-use Rattle.record6250.specs.Received.{receivedValues, packed}
+use Rattle.record6250.specs.Received.{receivedValues}
 use Rattle.record6250.specs.declared.received.Received.{Received}
-use Rattle.record6250.proofs.Packing.{packed-lt, byte-packed, bits-more}
+use Rattle.record6250.proofs.Packing.{packed, packed-lt, byte-packed, bits-more}
 
 -- the words from an index on, as they are in the forward picture
 abbrev pub wordsFrom : Bool → List ℕ → ℕ → ℕ → ℕ

@@ -63,22 +63,23 @@ fn gather(characters: &[u16], backward: bool, parities: &[u16]) -> Gathered
     let mut k = 0;
     while k < n {
         let next = forward_character(characters, backward, k);
-        let odd = parities[next as usize] ^ 1;
-        registers = stepped(registers, next, odd);
+        // 1 if the parity is wrong: that of a data character is odd.
+        let off = parities[next as usize] ^ 1;
+        registers = stepped(registers, next, off);
         longitudinal = longitudinal ^ next;
-        wrong += odd as usize;
+        wrong += off as usize;
         k += 1;
     }
     let check = forward_character(characters, backward, n);
-    let odd_check = parities[check as usize] ^ (((n + 1) % 2) as u16);
+    let check_off = parities[check as usize] ^ (((n + 1) % 2) as u16);
     let last = forward_character(characters, backward, n + 1);
-    let odd_last = parities[last as usize] ^ 1;
-    let entered = stepped(registers, check, odd_check);
+    let last_off = parities[last as usize] ^ 1;
+    let entered = stepped(registers, check, check_off);
     Gathered {
         check: entered.check,
         error: entered.error,
         longitudinal: longitudinal ^ check ^ last,
-        wrong: wrong + odd_check as usize + odd_last as usize,
+        wrong: wrong + check_off as usize + last_off as usize,
     }
 }
 
@@ -189,8 +190,8 @@ fn store(characters: &[u16], backward: bool, track: usize, parities: &[u16], out
     let mut k = 0;
     while k < n {
         let next = forward_character(characters, backward, k);
-        let odd = parities[next as usize] ^ 1;
-        output[k] = ((next ^ (odd << track)) % 256) as u8;
+        let off = parities[next as usize] ^ 1;
+        output[k] = ((next ^ (off << track)) % 256) as u8;
         k += 1;
     }
 }

@@ -1,8 +1,8 @@
 // The library for C: each call on slices of numbers, each answer as numbers. A call returns 0 for a
 // delivery, or the refusal's number, and stores the refusal's place, or 0.
-mod characters;
+mod at6250;
+mod at800;
 mod order;
-mod record;
 
 use answer::Refusal;
 ghost use mathlib.Core.Path.{_≡_};

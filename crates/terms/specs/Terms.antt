@@ -1,4 +1,5 @@
--- The notice's second and third terms, in terms of readings, written records and fits only: nothing here speaks of a decoder.
+-- The notice's third term. What fits, and what a delivery must tell, is said of readings and written records only; `answer` and
+-- `result` are the readers' definitions, with which their contracts equate what they answer and store.
 -- Assumes nothing.
 use mathlib.Core.Bool.{Bool}
 use mathlib.Core.List.{List, [], _∷_}

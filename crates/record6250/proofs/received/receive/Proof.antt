@@ -8,7 +8,7 @@ use borrow.Author.Needs.{needs}
 use Rattle.indexed.specs.List.{tabulate, tabulateFrom}
 use Rattle.register.specs.Bit.{ofBits}
 use Rattle.group_code.specs.Word.{valueOf}
-use Rattle.record6250.specs.Received.{packed}
+use Rattle.record6250.proofs.Packing.{packed}
 use Rattle.record6250.proofs.Receiving.{wordsFrom, in-table, value-there, mark-there, low, mark, packed-fits, more-packed, more-seen, all-values, all-marks}
 use Rattle.record6250.proofs.received.receive.Statement.{statement}
 use Rattle.record6250.proofs.received.receive.Tie as tie

@@ -36,14 +36,14 @@ loop-holds c = (search needs, (c .fresh .ensures .0, c .fresh .ensures .1, refl,
 forward-character-requires : tie.Need-forward-character-requires Inv-loop μ-loop
 forward-character-requires c κs = search needs
 
-cast-odd : tie.Need-cast-odd Inv-loop μ-loop
-cast-odd c = search needs
+cast-off : tie.Need-cast-off Inv-loop μ-loop
+cast-off c = search needs
 
-mul-odd : tie.Need-mul-odd Inv-loop μ-loop
-mul-odd c = search needs
+mul-off : tie.Need-mul-off Inv-loop μ-loop
+mul-off c = search needs
 
-shared-slice-read-odd : tie.Need-shared-slice-read-odd Inv-loop μ-loop
-shared-slice-read-odd c =
+shared-slice-read-off : tie.Need-shared-slice-read-off Inv-loop μ-loop
+shared-slice-read-off c =
     let start = c .before .before .before .before .before .before .before in
     in-table (start .pre .0) (start .pre .1) _ (c .before .forward-character .ensures)
 
@@ -76,22 +76,22 @@ loop-less c = search needs
 forward-character-requires-2 : tie.Need-forward-character-requires-2 Inv-loop μ-loop
 forward-character-requires-2 c κs = omega (arith, lengths-within _ _ (c .before .before .before .before .before .pre .0))
 
-cast-odd-check : tie.Need-cast-odd-check Inv-loop μ-loop
-cast-odd-check c = search needs
+cast-check-off : tie.Need-cast-check-off Inv-loop μ-loop
+cast-check-off c = search needs
 
-mul-odd-check : tie.Need-mul-odd-check Inv-loop μ-loop
-mul-odd-check c = search needs
+mul-check-off : tie.Need-mul-check-off Inv-loop μ-loop
+mul-check-off c = search needs
 
-shared-slice-read-odd-check : tie.Need-shared-slice-read-odd-check Inv-loop μ-loop
-shared-slice-read-odd-check c =
+shared-slice-read-check-off : tie.Need-shared-slice-read-check-off Inv-loop μ-loop
+shared-slice-read-check-off c =
     let start = c .before .before .before .before .before .before .before in
     in-table (start .pre .0) (start .pre .1) _ (c .before .forward-character2 .ensures)
 
-add-odd-check : tie.Need-add-odd-check Inv-loop μ-loop
-add-odd-check c = search needs
+add-check-off : tie.Need-add-check-off Inv-loop μ-loop
+add-check-off c = search needs
 
-cast-odd-check-2 : tie.Need-cast-odd-check-2 Inv-loop μ-loop
-cast-odd-check-2 c = search needs
+cast-check-off-2 : tie.Need-cast-check-off-2 Inv-loop μ-loop
+cast-check-off-2 c = search needs
 
 add-forward-character : tie.Need-add-forward-character Inv-loop μ-loop
 add-forward-character c = search needs
@@ -99,14 +99,14 @@ add-forward-character c = search needs
 forward-character-requires-3 : tie.Need-forward-character-requires-3 Inv-loop μ-loop
 forward-character-requires-3 c κs = omega (arith, lengths-within _ _ (c .before .before .before .before .before .before .before .pre .0))
 
-cast-odd-last : tie.Need-cast-odd-last Inv-loop μ-loop
-cast-odd-last c = search needs
+cast-last-off : tie.Need-cast-last-off Inv-loop μ-loop
+cast-last-off c = search needs
 
-mul-odd-last : tie.Need-mul-odd-last Inv-loop μ-loop
-mul-odd-last c = search needs
+mul-last-off : tie.Need-mul-last-off Inv-loop μ-loop
+mul-last-off c = search needs
 
-shared-slice-read-odd-last : tie.Need-shared-slice-read-odd-last Inv-loop μ-loop
-shared-slice-read-odd-last c =
+shared-slice-read-last-off : tie.Need-shared-slice-read-last-off Inv-loop μ-loop
+shared-slice-read-last-off c =
     let start = c .before .before .before .before .before .before .before .before .before in
     in-table (start .pre .0) (start .pre .1) _ (c .before .forward-character3 .ensures)
 
@@ -150,9 +150,9 @@ gather-spec =
     fresh-requires
     loop-holds
     forward-character-requires
-    cast-odd
-    mul-odd
-    shared-slice-read-odd
+    cast-off
+    mul-off
+    shared-slice-read-off
     stepped-requires
     cast-wrong
     add-wrong
@@ -160,16 +160,16 @@ gather-spec =
     loop-less
     loop-again
     forward-character-requires-2
-    cast-odd-check
-    mul-odd-check
-    shared-slice-read-odd-check
-    add-odd-check
-    cast-odd-check-2
+    cast-check-off
+    mul-check-off
+    shared-slice-read-check-off
+    add-check-off
+    cast-check-off-2
     add-forward-character
     forward-character-requires-3
-    cast-odd-last
-    mul-odd-last
-    shared-slice-read-odd-last
+    cast-last-off
+    mul-last-off
+    shared-slice-read-last-off
     stepped-requires-2
     cast-t25
     add-t22

@@ -35,14 +35,14 @@ loop-holds c = (search needs, refl, refl)
 forward-character-requires : tie.Need-forward-character-requires Inv-loop μ-loop
 forward-character-requires c κs = search needs
 
-cast-odd : tie.Need-cast-odd Inv-loop μ-loop
-cast-odd c = search needs
+cast-off : tie.Need-cast-off Inv-loop μ-loop
+cast-off c = search needs
 
-mul-odd : tie.Need-mul-odd Inv-loop μ-loop
-mul-odd c = search needs
+mul-off : tie.Need-mul-off Inv-loop μ-loop
+mul-off c = search needs
 
-shared-slice-read-odd : tie.Need-shared-slice-read-odd Inv-loop μ-loop
-shared-slice-read-odd c =
+shared-slice-read-off : tie.Need-shared-slice-read-off Inv-loop μ-loop
+shared-slice-read-off c =
     let start = c .before .before .before .before .before .before .before in
     in-table (start .pre .0) (start .pre .3) _ (c .before .forward-character .ensures)
 
@@ -72,8 +72,8 @@ loop-again c =
     let track = start .args .track in
     let next = c .before .forward-character .ensures in
     let taken = c .before .before .loop-test .taken in
-    let odd = data-wrong (start .pre .0) (start .pre .3) (at .k) next taken in
-    let shifted = shl-exact 1 track 16 (rw odd (wrong-lt _ _ _)) (omega (arith, start .pre .1)) ∙ ap (λ (w : ℕ). w * 2 ^ track) odd in
+    let off = data-wrong (start .pre .0) (start .pre .3) (at .k) next taken in
+    let shifted = shl-exact 1 track 16 (rw off (wrong-lt _ _ _)) (omega (arith, start .pre .1)) ∙ ap (λ (w : ℕ). w * 2 ^ track) off in
     let n = length (now (start .args .characters)) - 2 in (
       search needs,
       length-set (at .output) (at .k) _ ∙ at .inv .1,
@@ -103,9 +103,9 @@ store-spec =
     sub-n
     loop-holds
     forward-character-requires
-    cast-odd
-    mul-odd
-    shared-slice-read-odd
+    cast-off
+    mul-off
+    shared-slice-read-off
     cast-output
     shl-output
     cast-output-2

@@ -1,4 +1,4 @@
--- `rindthok::characters::rindthok_write800` meets its contract, by what `write` and `written_status` ensure.
+-- `rindthok::at800::rindthok_write800` meets its contract, by what `write` and `written_status` ensure.
 -- Assumes nothing.
 use mathlib.Core.Path.{ap, _∙_}
 use denote.Ref.{now}
@@ -6,8 +6,8 @@ use Rattle.answer.specs.Answer.{Answer, outputAfter}
 use Rattle.record800.specs.Record.{writtenRecord}
 use Rattle.rindthok.specs.Status.{status, placeTold, valueAfter}
 use borrow.Author.Needs.{needs}
-use Rattle.rindthok.proofs.characters.rindthok_write800.Statement.{statement}
-use Rattle.rindthok.proofs.characters.rindthok_write800.Tie as tie
+use Rattle.rindthok.proofs.at800.rindthok_write800.Statement.{statement}
+use Rattle.rindthok.proofs.at800.rindthok_write800.Tie as tie
 
 write-requires : tie.Need-write-requires
 write-requires c κs = search needs

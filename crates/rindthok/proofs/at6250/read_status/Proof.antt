@@ -1,9 +1,9 @@
--- `rindthok::characters::read_status` meets its contract, by the cases of the answer.
+-- `rindthok::at6250::read_status` meets its contract, by the cases of the answer.
 -- Assumes nothing.
 use mathlib.Core.Path.{refl}
 use borrow.Author.Needs.{needs}
-use Rattle.rindthok.proofs.characters.read_status.Statement.{statement}
-use Rattle.rindthok.proofs.characters.read_status.Tie as tie
+use Rattle.rindthok.proofs.at6250.read_status.Statement.{statement}
+use Rattle.rindthok.proofs.at6250.read_status.Tie as tie
 
 enum-known-answer : tie.Need-enum-known-answer
 enum-known-answer c = search needs
@@ -15,10 +15,10 @@ refused-status-requires : tie.Need-refused-status-requires
 refused-status-requires c κs = search needs
 
 returns : tie.Need-returns
-returns c = rw (c .before .answer .given .1) (refl, (refl, (refl, (refl, refl))))
+returns c = rw (c .before .answer .given .1) (refl, (refl, (refl, refl)))
 
 returns-2 : tie.Need-returns-2
-returns-2 c = rw (c .before .before .before .answer2 .given .1) (c .refused-status .ensures .0, (c .refused-status .ensures .1, (refl, (refl, refl))))
+returns-2 c = rw (c .before .before .before .answer2 .given .1) (c .refused-status .ensures .0, (c .refused-status .ensures .1, (refl, refl)))
 
 pub read-status-spec : {M : Type 1} → statement M
 read-status-spec =

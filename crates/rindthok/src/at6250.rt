@@ -1,4 +1,4 @@
-// Records for C.
+// Records at 6250 for C.
 use crate::refused_status;
 use record6250::Read;
 use record6250::Written;

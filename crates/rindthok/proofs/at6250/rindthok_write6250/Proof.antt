@@ -1,4 +1,4 @@
--- `rindthok::record::rindthok_write6250` meets its contract, by what `write` and `written_status` ensure.
+-- `rindthok::at6250::rindthok_write6250` meets its contract, by what `write` and `written_status` ensure.
 -- Assumes nothing.
 use mathlib.Core.Path.{ap, _∙_}
 use borrow.Author.Needs.{needs}
@@ -6,8 +6,8 @@ use denote.Ref.{now}
 use Rattle.answer.specs.Answer.{Answer, outputAfter}
 use Rattle.record6250.specs.Record.{writtenRecord}
 use Rattle.rindthok.specs.Status.{status, placeTold, valueAfter}
-use Rattle.rindthok.proofs.record.rindthok_write6250.Statement.{statement}
-use Rattle.rindthok.proofs.record.rindthok_write6250.Tie as tie
+use Rattle.rindthok.proofs.at6250.rindthok_write6250.Statement.{statement}
+use Rattle.rindthok.proofs.at6250.rindthok_write6250.Tie as tie
 
 write-requires : tie.Need-write-requires
 write-requires c κs = search needs
