@@ -24,6 +24,7 @@ ghost use mathlib.Core.Bool.{true, false};
 ghost use mathlib.Core.List.{_++_};
 ghost use mathlib.Core.Path.{_≡_};
 ghost use Prim.Native.Nat.{_-_, _*_, _<_, _≤_};
+ghost use lib.Count.{ones};
 ghost use lib.ListN.{length, take, drop};
 ghost use Rattle.group_code.specs.Word.{readings};
 ghost use Rattle.answer.specs.Answer.{refusedFor, outputAfter};
@@ -68,6 +69,16 @@ pub(crate) fn judge_group(
     }
 }
 
+// How many tracks a map of changed ones has. Most groups have none, and that is seen at once.
+fn count_changed(changed: u16) -> usize
+    ensures { λ r. ⌜ r ≡ ones changed ⌝ }
+{
+    if changed == 0 {
+        return 0;
+    }
+    u16::count_ones(changed) as usize
+}
+
 // Walks the groups, judges each and gathers the corrected bytes, seven a group, at the front of the body.
 fn correct_all(words: &[u16], maps: &[u16], backward: bool, table: &[u16], body: &mut [u8]) -> Scan
     requires { ⌜ Passes backward (now words) (now maps) × (7 * length (now maps) ≤ length (now body)) × (now table ≡ readings backward) ⌝ }
@@ -81,7 +92,7 @@ fn correct_all(words: &[u16], maps: &[u16], backward: bool, table: &[u16], body:
             Judged::Corrected(right) => {
                 let at = g * 7;
                 unpack(&mut body[at..], right.tracks);
-                changes += u16::count_ones(right.changed) as usize;
+                changes += count_changed(right.changed);
                 g = next_group(words, g);
             }
             Judged::ManyPointed => {

@@ -93,17 +93,8 @@ unpack-requires c κs =
     rw (part-to-end (at .g * 7) (at .body))
     (omega (arith, length-drop (at .g * 7) (at .body), c .before .before .before .before .before .loop-test .taken, start .pre .1))
 
-cast-changes : tie.Need-cast-changes Inv-loop μ-loop
-cast-changes c =
-    let start = c .before .before .before .before .before .before .before .before .before .before .before .before .before .before .before .before in
-    let words = now (start .args .words) in
-    let maps = now (start .args .maps) in
-    let b = start .args .backward in
-    let at = c .before .before .before .before .before .before .before .before .before .before .loop in
-    let right = c .before .before .before .before .before .before .right .given in
-    let told = c .before .before .before .before .before .before .before .before .judge-at in
-    let changed = told-changed (changedTracks b words maps (at .g)) (told .result) (right .0 .0) (right .1) (told .ensures .1) in
-    omega (arith, ap ones changed, ones-changed-le b words maps (at .g))
+count-changed-requires : tie.Need-count-changed-requires Inv-loop μ-loop
+count-changed-requires c κs = search needs
 
 add-changes : tie.Need-add-changes Inv-loop μ-loop
 add-changes c =
@@ -117,7 +108,7 @@ add-changes c =
     let changed = told-changed (changedTracks b words maps (at .g)) (told .result) (right .0 .0) (right .1) (told .ensures .1) in
     omega (
       arith,
-      ap ones changed,
+      c .count-changed .ensures ∙ ap ones changed,
       changed-le b words maps (at .g),
       ones-changed-le b words maps (at .g),
       groups-within b words maps (start .pre .0) .1,
@@ -151,7 +142,7 @@ loop-again c =
       c .before .before .before .body .given .1 ∙ at .inv .2,
       next-stored 7 (λ g. rightBytes (judgement b words maps g)) (λ k. length-rightBytes (judgement b words maps k)) (at .g)
           (now (start .args .body)) (at .body) _ _ (at .inv .3) (packed-bytes (right .0 .0) ∙ ap rightBytes (sym fits)) (c .before .before .before .before .unpack .ensures),
-      ap₂ _+_ (at .inv .4) (ap ones changed) ∙ changed-more b words maps (at .g),
+      ap₂ _+_ (at .inv .4) (c .before .count-changed .ensures ∙ ap ones changed) ∙ changed-more b words maps (at .g),
     )
 
 enum-told : tie.Need-enum-told Inv-loop μ-loop
@@ -226,7 +217,7 @@ correct-all-spec =
     part-unpack-start
     part-unpack-end
     unpack-requires
-    cast-changes
+    count-changed-requires
     add-changes
     next-group-requires
     loop-less
