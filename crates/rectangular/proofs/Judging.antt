@@ -1,11 +1,12 @@
 -- The judgement as the code makes it: by syndromes in hand, by a track that was searched for, and by counts of the map's bits.
 -- Assumes nothing.
 use mathlib.Core.Path.{_≡_, refl, sym, ap, ap₂, _∙_}
-use mathlib.Core.Bool.{Bool, cond}
+use mathlib.Core.Bool.{Bool, true, false, cond}
 use mathlib.Core.List.{List, [], _∷_}
 use Prim.Native.Nat.{ℕ, _-_, _<_, _≤_}
 use native.Mathlib.Nat.{suc-ne-zero, suc-inj}
-use borrow.Author.Tests.{lt-ltb, le-ltb, eq-eqb}
+use native.Mathlib.Omega.{arith}
+use borrow.Author.Tests.{lt-ltb, le-ltb, eq-eqb, ne-eqb}
 use lib.Bits.{bitAnd, xor-zero-r}
 use lib.Count.{ones, onesIn, trailingZeros}
 use lib.Dec.{eqb, ltb}
@@ -96,6 +97,40 @@ list-of-two (x ∷ y ∷ z ∷ l) e = absurd (suc-ne-zero _ (suc-inj (suc-inj e)
 pub none-pointed : (m : ℕ) → m ≡ 0 → pointedTracks 9 m ≡ []
 unfolding pointedTracks keep below tabulate tabulateFrom bit
 none-pointed m e = ap (pointedTracks 9) e
+
+-- what is left of a map without its lowest one, and how many are pointed as that tells: 3 for three or more. A test of every map.
+abbrev others : ℕ → ℕ
+others m = bitAnd m (m - 1)
+
+abbrev told : ℕ → ℕ
+told m = cond (eqb m 0) 0 (cond (eqb (others m) 0) 1 (cond (eqb (others (others m)) 0) 2 3))
+
+counted : (m : ℕ) → m < 512 → cond (ltb 3 (ones m)) 3 (ones m) ≡ told m
+unfolding ones onesIn
+counted = equal 512 (λ m. cond (ltb 3 (ones m)) 3 (ones m)) told tt
+
+few : (n k : ℕ) → k < 3 → cond (ltb 3 n) 3 n ≡ k → n ≡ k
+few n k h e = by (ltb 3 n) e
+  where
+    by : (b : Bool) → cond b 3 n ≡ k → n ≡ k
+    by true e = absurd (omega arith)
+    by false e = e
+
+module _ (m : ℕ) (h : m < 512) (some : m ≡ 0 → ⊥) where
+  pub counts-one : others m ≡ 0 → ones m ≡ 1
+  counts-one e = few (ones m) 1 (omega arith) (counted m h ∙ simp (ne-eqb m 0 some, eq-eqb (others m) 0 e))
+
+  module _ (more : others m ≡ 0 → ⊥) where
+    pub counts-two : others (others m) ≡ 0 → ones m ≡ 2
+    counts-two e =
+        few (ones m) 2 (omega arith) (counted m h ∙ simp (ne-eqb m 0 some, ne-eqb (others m) 0 more, eq-eqb (others (others m)) 0 e))
+
+    pub counts-many : (others (others m) ≡ 0 → ⊥) → (k : ℕ) → k < 3 → ones m ≡ k → ⊥
+    counts-many ne k b e = by (ones m) e (counted m h ∙ simp (ne-eqb m 0 some, ne-eqb (others m) 0 more, ne-eqb (others (others m)) 0 ne))
+      where
+        by : (n : ℕ) → n ≡ k → cond (ltb 3 n) 3 n ≡ 3 → ⊥
+        by n q t = let small : n < 3 = omega arith in
+            absurd (let same : n ≡ 3 = sym (ap (λ (b : Bool). cond b 3 n) (le-ltb 3 n (omega arith))) ∙ t in omega arith)
 
 module _ (m : ℕ) (h : m < 512) where
   pub one-pointed : ones m ≡ 1 → pointedTracks 9 m ≡ trailingZeros 16 m ∷ []

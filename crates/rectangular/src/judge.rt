@@ -153,13 +153,13 @@ pub fn judge(group: Group, pointers: u16) -> Judged
     if pointers == 0 {
         return unpointed(group, s1, s2);
     }
-    let count = u16::count_ones(pointers);
     let first = u16::trailing_zeros(pointers) as usize;
-    if count == 1 {
+    let others = pointers & (pointers - 1);
+    if others == 0 {
         return pointed_once(group, first, s1, s2);
     }
-    if count == 2 {
-        let second = u16::trailing_zeros(pointers & (pointers - 1)) as usize;
+    if others & (others - 1) == 0 {
+        let second = u16::trailing_zeros(others) as usize;
         return pointed_twice(group, first, second, s1, s2);
     }
     Judged::ManyPointed

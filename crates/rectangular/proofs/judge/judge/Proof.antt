@@ -12,7 +12,7 @@ use Rattle.rectangular.specs.Constants.{feedback, exponent}
 use Rattle.rectangular.specs.Correction.{pointedTracks, judged}
 use Rattle.rectangular.specs.Judged.{changedBy}
 use Rattle.rectangular.specs.Packed.{valuesOf}
-use Rattle.rectangular.proofs.Judging.{none-pointed, one-pointed, two-pointed, many-pointed}
+use Rattle.rectangular.proofs.Judging.{counts-one, counts-two, counts-many, none-pointed, one-pointed, two-pointed, many-pointed}
 use Rattle.rectangular.proofs.Packed.{parity-syndrome, check-syndrome}
 use Rattle.rectangular.proofs.Pointed.{pointed-lt, pointed-ascends}
 use Rattle.rectangular.proofs.judge.judge.Statement.{statement}
@@ -41,12 +41,15 @@ returns c =
 cast-first : tie.Need-cast-first
 cast-first c = omega (arith, trailing-le 16 (c .before .before .before .before .args .pointers))
 
+sub-others : tie.Need-sub-others
+sub-others c = search needs
+
 pointed-once-requires : tie.Need-pointed-once-requires
 pointed-once-requires c κs =
     let start = c .before .before .before .before .before in
     let m = start .args .pointers in
     let g = start .args .group in
-    let is = one-pointed m (start .pre) (c .if2 .taken) in (
+    let is = one-pointed m (start .pre) (counts-one m (start .pre) (c .before .if1 .left) (c .if2 .taken)) in (
       pointed-lt 9 m (trailingZeros 16 m ∷ []) is 0 (omega arith),
       parity-syndrome g _ (c .before .before .before .before .parity .ensures),
       check-syndrome g _ (c .before .before .check-syndrome .ensures),
@@ -58,12 +61,12 @@ returns-2 c =
     let start = c .before .before .before .before .before .before in
     let args = start .args in (
       c .pointed-once .ensures .0
-          ∙ sym (ap (judged 8 feedback exponent (λ k. getD (valuesOf (args .group)) k 0)) (one-pointed (args .pointers) (start .pre) (c .before .if2 .taken))),
+          ∙ sym (ap (judged 8 feedback exponent (λ k. getD (valuesOf (args .group)) k 0)) (one-pointed (args .pointers) (start .pre) (counts-one (args .pointers) (start .pre) (c .before .before .if1 .left) (c .before .if2 .taken)))),
       c .pointed-once .ensures .1,
     )
 
-sub-second : tie.Need-sub-second
-sub-second c = search needs
+sub-if3 : tie.Need-sub-if3
+sub-if3 c = search needs
 
 cast-second : tie.Need-cast-second
 cast-second c =
@@ -76,7 +79,7 @@ pointed-twice-requires c κs =
     let m = start .args .pointers in
     let g = start .args .group in
     let both = trailingZeros 16 m ∷ trailingZeros 16 (bitAnd m (m - 1)) ∷ [] in
-    let is : pointedTracks 9 m ≡ both = two-pointed m (start .pre) (c .if3 .taken) in (
+    let is : pointedTracks 9 m ≡ both = two-pointed m (start .pre) (counts-two m (start .pre) (c .before .before .if1 .left) (c .before .if2 .left) (c .if3 .taken)) in (
       pointed-ascends 9 m both is 0 1 (omega arith) (omega arith),
       pointed-lt 9 m both is 1 (omega arith),
       parity-syndrome g _ (c .before .before .before .before .before .parity .ensures),
@@ -89,7 +92,7 @@ returns-3 c =
     let start = c .before .before .before .before .before .before .before in
     let args = start .args in (
       c .pointed-twice .ensures .0
-          ∙ sym (ap (judged 8 feedback exponent (λ k. getD (valuesOf (args .group)) k 0)) (two-pointed (args .pointers) (start .pre) (c .before .if3 .taken))),
+          ∙ sym (ap (judged 8 feedback exponent (λ k. getD (valuesOf (args .group)) k 0)) (two-pointed (args .pointers) (start .pre) (counts-two (args .pointers) (start .pre) (c .before .before .before .if1 .left) (c .before .before .if2 .left) (c .before .if3 .taken)))),
       c .pointed-twice .ensures .1,
     )
 
@@ -97,8 +100,10 @@ returns-4 : tie.Need-returns-4
 unfolding changedBy
 returns-4 c =
     let start = c .before .before .before .before .before .before in
-    let args = start .args in (
-      many-pointed (λ k. getD (valuesOf (args .group)) k 0) (args .pointers) (start .pre) (c .before .before .if1 .left) (c .before .if2 .left) (c .if3 .left),
+    let args = start .args in
+    let many = counts-many (args .pointers) (start .pre) (c .before .before .if1 .left) (c .before .if2 .left) (c .if3 .left) in (
+      many-pointed (λ k. getD (valuesOf (args .group)) k 0) (args .pointers) (start .pre) (c .before .before .if1 .left) (many 1 (omega arith))
+          (many 2 (omega arith)),
       refl,
     )
 
@@ -111,9 +116,10 @@ judge-spec =
     unpointed-requires
     returns
     cast-first
+    sub-others
     pointed-once-requires
     returns-2
-    sub-second
+    sub-if3
     cast-second
     pointed-twice-requires
     returns-3
