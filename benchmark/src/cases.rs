@@ -131,31 +131,39 @@ impl Call {
         }
     }
 
-    /// The library's call, on a record, into the outputs.
-    pub fn library(self, record: &Record, words: &mut [u16], bytes: &mut [u8]) -> Answer {
+    /// The call by an implementation, on a record, into the outputs.
+    pub fn run(self, by: &Implementation, record: &Record, words: &mut [u16], bytes: &mut [u8]) -> Answer {
         match self {
-            Call::Write6250 => calls::write6250(&record.data, words),
-            Call::Read6250 { backward: false, .. } => calls::read6250::<false>(&record.tape, &record.maps, bytes),
-            Call::Read6250 { backward: true, .. } => calls::read6250::<true>(&record.tape, &record.maps, bytes),
-            Call::Write800 => calls::write800(&record.data, words),
-            Call::Read800 { backward: false, .. } => calls::read800::<false>(&record.tape, bytes),
-            Call::Read800 { backward: true, .. } => calls::read800::<true>(&record.tape, bytes),
-            Call::Order { physical: true } => calls::words_to_physical(&record.tape, words),
-            Call::Order { physical: false } => calls::words_to_algebraic(&record.tape, words),
-        }
-    }
-
-    /// The same by the Rust implementation.
-    pub fn fast(self, record: &Record, words: &mut [u16], bytes: &mut [u8]) -> Answer {
-        match self {
-            Call::Write6250 => fast6250::write(&record.data, words),
-            Call::Read6250 { backward: false, .. } => fast6250::read::<false>(&record.tape, &record.maps, bytes),
-            Call::Read6250 { backward: true, .. } => fast6250::read::<true>(&record.tape, &record.maps, bytes),
-            Call::Write800 => fast800::write(&record.data, words),
-            Call::Read800 { backward: false, .. } => fast800::read::<false>(&record.tape, bytes),
-            Call::Read800 { backward: true, .. } => fast800::read::<true>(&record.tape, bytes),
-            Call::Order { physical: true } => fast_order::to_physical(&record.tape, words),
-            Call::Order { physical: false } => fast_order::to_algebraic(&record.tape, words),
+            Call::Write6250 => (by.write6250)(&record.data, words),
+            Call::Read6250 { backward, .. } => by.read6250[usize::from(backward)](&record.tape, &record.maps, bytes),
+            Call::Write800 => (by.write800)(&record.data, words),
+            Call::Read800 { backward, .. } => by.read800[usize::from(backward)](&record.tape, bytes),
+            Call::Order { physical } => by.order[usize::from(physical)](&record.tape, words),
         }
     }
 }
+
+/// The calls of one implementation: forward before backward, and to code order before to head order.
+pub struct Implementation {
+    write6250: fn(&[u8], &mut [u16]) -> Answer,
+    read6250: [fn(&[u16], &[u16], &mut [u8]) -> Answer; 2],
+    write800: fn(&[u8], &mut [u16]) -> Answer,
+    read800: [fn(&[u16], &mut [u8]) -> Answer; 2],
+    order: [fn(&[u16], &mut [u16]) -> Answer; 2],
+}
+
+pub const LIBRARY: Implementation = Implementation {
+    write6250: calls::write6250,
+    read6250: [calls::read6250::<false>, calls::read6250::<true>],
+    write800: calls::write800,
+    read800: [calls::read800::<false>, calls::read800::<true>],
+    order: [calls::words_to_algebraic, calls::words_to_physical],
+};
+
+pub const RUST: Implementation = Implementation {
+    write6250: fast6250::write,
+    read6250: [fast6250::read::<false>, fast6250::read::<true>],
+    write800: fast800::write,
+    read800: [fast800::read::<false>, fast800::read::<true>],
+    order: [fast_order::to_algebraic, fast_order::to_physical],
+};

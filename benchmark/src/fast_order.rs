@@ -2,36 +2,31 @@
 
 use crate::Answer;
 
-/// The algebraic track of each physical track, 1 to 9.
+/// The algebraic track of each physical track, 1 to 9, and the index in head order of each algebraic one.
 const ALGEBRAIC: [usize; 9] = [1, 4, 7, 8, 3, 6, 0, 2, 5];
+const PHYSICAL: [usize; 9] = [6, 0, 7, 4, 1, 8, 5, 2, 3];
 
-fn refusal(source: &[u16], target: &[u16]) -> Option<Answer> {
+/// Takes each word of the target from its place in the source.
+fn moved(source: &[u16], target: &mut [u16], places: [usize; 9]) -> Answer {
     if source.len() != 9 {
-        return Some(Answer::Refused(1, 0));
+        return Answer::Refused(1, 0);
     }
     if target.len() < 9 {
-        return Some(Answer::Refused(2, 0));
+        return Answer::Refused(2, 0);
     }
-    let place = source.iter().position(|&word| word > 1023)?;
-    Some(Answer::Refused(3, place))
+    if let Some(place) = source.iter().position(|&word| word > 1023) {
+        return Answer::Refused(3, place);
+    }
+    for (to, from) in places.into_iter().enumerate() {
+        target[to] = source[from];
+    }
+    Answer::Delivered([0; 3])
 }
 
 pub fn to_physical(source: &[u16], target: &mut [u16]) -> Answer {
-    if let Some(refusal) = refusal(source, target) {
-        return refusal;
-    }
-    for (physical, algebraic) in ALGEBRAIC.into_iter().enumerate() {
-        target[physical] = source[algebraic];
-    }
-    Answer::Delivered([0; 3])
+    moved(source, target, ALGEBRAIC)
 }
 
 pub fn to_algebraic(source: &[u16], target: &mut [u16]) -> Answer {
-    if let Some(refusal) = refusal(source, target) {
-        return refusal;
-    }
-    for (physical, algebraic) in ALGEBRAIC.into_iter().enumerate() {
-        target[algebraic] = source[physical];
-    }
-    Answer::Delivered([0; 3])
+    moved(source, target, PHYSICAL)
 }

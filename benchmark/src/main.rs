@@ -1,6 +1,7 @@
 //! How fast the proved library is, beside implementations in Rust that were written for speed and beside memcpy,
 //! all in one run and interleaved: the best of many rounds over the same records. Output buffers are not cleared
-//! between calls. Prints the tables of docs/BENCHMARK.md and, given a path, draws the picture there.
+//! between calls. Prints the tables of docs/BENCHMARK.md and, given a path, draws the picture there. Given the word
+//! `compare` it measures nothing, and only sees that both implementations agree.
 
 #[path = "../../tests/host/src/abi.rs"]
 mod abi;
@@ -11,7 +12,7 @@ mod fast800;
 mod fast_order;
 mod picture;
 
-use cases::{Call, Damage, Record, Seeded};
+use cases::{Call, Damage, Record, Seeded, LIBRARY, RUST};
 use std::hint::black_box;
 use std::time::Instant;
 
@@ -47,28 +48,34 @@ fn nanoseconds(repeats: usize, mut work: impl FnMut()) -> f64 {
 fn compare(call: Call, record: &Record) {
     let (mut words, mut bytes) = (vec![7; 5280], vec![7; 4104]);
     let (mut words_again, mut bytes_again) = (words.clone(), bytes.clone());
-    let answer = call.library(record, &mut words, &mut bytes);
-    assert_eq!(answer, call.fast(record, &mut words_again, &mut bytes_again), "{}", call.name());
+    let answer = call.run(&LIBRARY, record, &mut words, &mut bytes);
+    assert_eq!(answer, call.run(&RUST, record, &mut words_again, &mut bytes_again), "{}", call.name());
     assert!(matches!(answer, Answer::Delivered(_)));
     assert!(words == words_again && bytes == bytes_again, "{}", call.name());
 }
 
-fn measured(call: Call, length: usize) -> Measured {
+/// The records of a case, on which both implementations agree.
+fn compared(call: Call, length: usize) -> Vec<Record> {
     let mut seeded = Seeded(212);
     let records: Vec<Record> = (0..RECORDS).map(|_| call.record(&mut seeded, length)).collect();
     records.iter().for_each(|record| compare(call, record));
+    records
+}
+
+fn measured(call: Call, length: usize) -> Measured {
+    let records = compared(call, length);
     let (mut words, mut bytes) = (vec![0; 5280], vec![0; 4104]);
     let repeats = (40_000 / (length + 20) / RECORDS).max(1);
     let mut best = [f64::MAX; 3];
     for _ in 0..ROUNDS {
         let library = nanoseconds(repeats, || {
             for record in &records {
-                black_box(call.library(black_box(record), &mut words, &mut bytes));
+                black_box(call.run(&LIBRARY, black_box(record), &mut words, &mut bytes));
             }
         });
         let fast = nanoseconds(repeats, || {
             for record in &records {
-                black_box(call.fast(black_box(record), &mut words, &mut bytes));
+                black_box(call.run(&RUST, black_box(record), &mut words, &mut bytes));
             }
         });
         let copy = nanoseconds(repeats, || {
@@ -88,20 +95,16 @@ fn readings(read: impl Fn(bool, Damage) -> Call, damages: &[Damage]) -> Vec<Call
     [false, true].into_iter().flat_map(|backward| damages.iter().map(move |&damage| (backward, damage))).map(|(backward, damage)| read(backward, damage)).collect()
 }
 
-fn all_measured() -> Vec<Measured> {
+/// Every call that is measured, with the length of its data.
+fn cases() -> Vec<(Call, usize)> {
     let at6250 = |backward, damage| Call::Read6250 { backward, damage };
     let at800 = |backward, damage| Call::Read800 { backward, damage };
     let mut calls = vec![(Call::Write6250, 4101)];
     calls.extend(readings(at6250, &[Damage::Clean, Damage::OneTrack, Damage::TwoPointed]).into_iter().map(|call| (call, 4101)));
     calls.push((Call::Write800, 2048));
     calls.extend(readings(at800, &[Damage::Clean, Damage::OneTrack]).into_iter().map(|call| (call, 2048)));
-    let mut all = vec![];
-    for (call, full) in calls {
-        all.push(measured(call, 80));
-        all.push(measured(call, full));
-    }
-    all.push(measured(Call::Order { physical: true }, 0));
-    all.push(measured(Call::Order { physical: false }, 0));
+    let mut all: Vec<(Call, usize)> = calls.into_iter().flat_map(|(call, full)| [(call, 80), (call, full)]).collect();
+    all.extend([true, false].map(|physical| (Call::Order { physical }, 0)));
     all
 }
 
@@ -136,11 +139,16 @@ fn print_growth(growth: &[(usize, f64, f64)]) {
 }
 
 fn main() {
-    let all = all_measured();
+    let argument = std::env::args().nth(1);
+    if argument.as_deref() == Some("compare") {
+        let records: usize = cases().into_iter().map(|(call, length)| compared(call, length).len()).sum();
+        println!("{records} records, no difference");
+        return;
+    }
+    let all: Vec<Measured> = cases().into_iter().map(|(call, length)| measured(call, length)).collect();
     print_table(&all);
-    let growth = growth();
-    print_growth(&growth);
-    if let Some(path) = std::env::args().nth(1) {
+    print_growth(&growth());
+    if let Some(path) = argument {
         std::fs::write(&path, picture::drawn(&all)).expect("the picture is written");
     }
 }
