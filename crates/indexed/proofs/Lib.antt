@@ -11,3 +11,4 @@ pub mod Part
 pub mod Map
 pub mod Walk
 pub mod Turned
+pub mod Rule

@@ -1,3 +1,4 @@
 pub mod List
 pub mod Test
 pub mod Differ
+pub mod Rule

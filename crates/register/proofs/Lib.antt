@@ -9,3 +9,4 @@ pub mod Ones
 pub mod Linear
 pub mod Exponent
 pub mod Parity
+pub mod Matrix

@@ -5,3 +5,4 @@ pub mod Sum
 pub mod Exponent
 pub mod Parity
 pub mod Union
+pub mod Matrix
