@@ -1,22 +1,21 @@
 // How a group lies among the words of a record: nine words, tracks 0 to 8.
+use group_code::word;
 use rectangular::group::Group;
 ghost use mathlib.Core.Path.{_≡_};
 ghost use mathlib.Core.List.{_++_, map};
 ghost use Prim.Native.Nat.{_≤_};
 ghost use lib.ListN.{length, drop};
-ghost use Rattle.indexed.specs.List.{tabulate};
 ghost use Rattle.group_code.specs.Code.{wordOf};
 ghost use Rattle.rectangular.specs.Packed.{valuesOf};
 
 // Stores a group's nine words at the front.
-pub(crate) fn store(words: &mut [u16], group: Group, table: &[u16])
-    requires { ⌜ (9 ≤ length (now words)) × (now table ≡ tabulate 256 wordOf) ⌝ }
+pub(crate) fn store(words: &mut [u16], group: Group)
+    requires { ⌜ 9 ≤ length (now words) ⌝ }
     ensures { λ _. ⌜ now (words .exit) ≡ map wordOf (valuesOf group) ++ drop 9 (now (words .entry)) ⌝ }
 {
     let mut j = 0;
     while j < 9 {
-        let value = group.value(j) as usize;
-        words[j] = table[value];
+        words[j] = word(group.value(j));
         j += 1;
     }
 }

@@ -4,16 +4,12 @@ use crate::group::store;
 use answer::Reason;
 use answer::Refusal;
 use rectangular::Code6250;
-use rectangular::group::information;
 use rectangular::group::written;
 ghost use mathlib.Core.Path.{_≡_};
 ghost use Prim.Native.Nat.{_*_, _/_, _≤_};
 ghost use lib.ListN.{length};
-ghost use Rattle.indexed.specs.List.{tabulate};
 ghost use Rattle.answer.specs.Answer.{outputAfter};
-ghost use Rattle.group_code.specs.Code.{wordOf};
-ghost use Rattle.rectangular.specs.Packed.{byteAt, informationAt};
-ghost use Rattle.record6250.specs.Record.{body, groupsFor, groupBytes, groupsStored, writtenRecord};
+ghost use Rattle.record6250.specs.Record.{body, groupBytes, groupsStored, writtenRecord};
 ghost use Rattle.record6250.specs.Written.{toldWritten, writeAnswer};
 
 // The bytes of the last group: the data that are left, the zero bytes, and the byte that counts them.
@@ -32,34 +28,17 @@ fn last_group(bytes: &[u8]) -> [u8; 7]
     last
 }
 
-// The information bytes of a group, packed.
-fn group_information(bytes: &[u8], g: usize) -> u64
-    requires { ⌜ g ≤ length (now bytes) / 7 ⌝ }
-    ensures characters { λ r. ⌜ informationAt r ≡ groupBytes g (body (now (bytes .entry))) ⌝ }
-    ensures check { λ r. ⌜ byteAt 0 r ≡ 0 ⌝ }
+// Writes the groups that are full of data. The compiler makes one copy of the loop for both calls of it.
+fn write_groups(bytes: &[u8], words: &mut [u16])
+    requires { ⌜ 9 * (length (now bytes) / 7) ≤ length (now words) ⌝ }
+    ensures { λ _. ⌜ now (words .exit) ≡ groupsStored (length (now (bytes .entry)) / 7) (now (bytes .entry)) (now (words .entry)) ⌝ }
 {
-    if g < bytes.len() / 7 {
-        let from = g * 7;
-        return information(&bytes[from..]);
-    }
-    let last = last_group(bytes);
-    information(&last)
-}
-
-// Writes every group, with the words of the track bytes.
-fn write_groups(bytes: &[u8], words: &mut [u16], table: &[u16])
-    requires { ⌜ (9 * groupsFor (length (now bytes)) ≤ length (now words)) × (now table ≡ tabulate 256 wordOf) ⌝ }
-    ensures { λ _. ⌜ now (words .exit) ≡ groupsStored (groupsFor (length (now (bytes .entry)))) (now (bytes .entry)) (now (words .entry)) ⌝ }
-{
-    let groups = bytes.len() / 7 + 1;
+    let full = bytes.len() / 7;
     let mut g = 0;
-    while g < groups {
+    while g < full {
+        let from = g * 7;
         let to = g * 9;
-        store(
-            &mut words[to..],
-            written(group_information(bytes, g)),
-            table,
-        );
+        store(&mut words[to..], written(&bytes[from..]));
         g += 1;
     }
 }
@@ -82,7 +61,9 @@ pub fn write(bytes: &[u8], words: &mut [u16]) -> Written
             place: 0,
         });
     }
-    let table = group_code::written_words();
-    write_groups(bytes, words, &table);
+    write_groups(bytes, words);
+    let last = last_group(bytes);
+    let to = full * 9;
+    write_groups(&last, &mut words[to..]);
     Written::Delivered(full + 1)
 }

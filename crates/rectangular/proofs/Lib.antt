@@ -13,6 +13,6 @@ pub mod Exchange
 pub mod Check
 pub mod Matrix
 pub mod Packed
-pub mod Gathered
+pub mod Generator
 pub mod Corrected
 pub mod Judging

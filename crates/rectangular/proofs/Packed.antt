@@ -1,5 +1,4 @@
--- The packed group is the group: the check syndrome of the information bytes is the check byte, and folding the tracks gives the
--- parity track.
+-- The packed group is the group: folding the tracks gives the parity track.
 -- Assumes nothing.
 use mathlib.Core.Path.{_≡_, sym, ap, ap₂, _∙_}
 use mathlib.Core.List.{List, [], _∷_, _++_}
@@ -21,7 +20,7 @@ use Rattle.register.proofs.Xor.{xor-assoc, xor-left-comm}
 use Rattle.rectangular.specs.Constants.{feedback}
 use Rattle.rectangular.specs.Correction.{paritySyndrome, checkSyndrome}
 use Rattle.rectangular.specs.Group.{information, check, character, column, track, group}
-use Rattle.rectangular.specs.Packed.{byteAt, bytesOf, valuesOf, informationAt, parityByte}
+use Rattle.rectangular.specs.Packed.{byteAt, bytesOf, valuesOf, parityByte}
 use Rattle.rectangular.specs.declared.group.Group.{Group}
 use Rattle.rectangular.proofs.Bytes.{byte-first, byte-next, byte-of}
 use Rattle.rectangular.proofs.Symmetry.{column-ext}
@@ -58,59 +57,16 @@ folded x =
 
 -- ---- the group that is written
 
-module _ (x : ℕ) (empty : byteAt 0 x ≡ 0) where
-  upper : ℕ
-  upper = x / 256
-
-  joined : (b : ℕ) → x + b ≡ upper * 256 + b
-  unfolding byteAt upper
-  joined b = let whole : x % 256 ≡ 0 = ap (λ (n : ℕ). n % 256) (sym (div-one x)) ∙ empty in omega arith
-
-  -- the check byte beside the information bytes leaves them as they are
-  information-stays : (b i : ℕ) → b < 256 → byteAt (suc i) (x + b) ≡ byteAt (suc i) x
-  information-stays b i h =
-      ap (byteAt (suc i)) (joined b)
-      ∙ byte-next i upper b h
-      ∙ sym (byte-next i upper 0 (zero-lt-suc 255))
-      ∙ ap (byteAt (suc i)) (sym (joined 0) ∙ add-zero x)
-
-  -- B_1 to B_7 are the information bytes
-  information-at : (i : ℕ) → i < 7 → information 8 (informationAt x) (suc i) ≡ byteAt (suc i) x
-  unfolding information informationAt
-  information-at i h =
-      let place : 7 - (8 - 1 - suc i) ≡ suc i = omega arith in
-      getD-tabulate 7 (λ k. byteAt (7 - k) x) (8 - 1 - suc i) 0 (omega arith) ∙ ap (λ (n : ℕ). byteAt n x) place
-
-  -- and their check syndrome is B_0
-  check-byte : checkSyndrome 8 feedback (λ j. byteAt j x) ≡ check 8 feedback (informationAt x)
-  unfolding checkSyndrome check
-  check-byte =
-      sum-first 7 (λ j. shifts 8 feedback j (byteAt j x))
-      ∙ ap (λ (b : ℕ). shifts 8 feedback 0 b ⊕ xorSum 7 (λ j. shifts 8 feedback (suc j) (byteAt (suc j) x))) empty
-      ∙ ap (λ (b : ℕ). b ⊕ xorSum 7 (λ j. shifts 8 feedback (suc j) (byteAt (suc j) x))) (shifts-zero 8 feedback 0)
-      ∙ xor-zero-l (xorSum 7 (λ j. shifts 8 feedback (suc j) (byteAt (suc j) x)))
-      ∙ sum-ext 7 _ _ (λ j h. ap (shifts 8 feedback (suc j)) (sym (information-at j h)))
-
-  module _ (b : ℕ) (byte : b < 256) (is : b ≡ checkSyndrome 8 feedback (λ j. byteAt j x)) where
-    character-at : (i : ℕ) → i < 8 → byteAt i (x + b) ≡ character 8 feedback (informationAt x) i
-    unfolding character
-    character-at zero h = ap (byteAt 0) (joined b) ∙ byte-first upper b byte ∙ is ∙ check-byte
-    character-at (suc i) h = information-stays b i byte ∙ sym (information-at i (omega arith))
-
-    pub joined-fits : x < 2 ^ 64 → x + b < 2 ^ 64
-    joined-fits h = rw (joined b) (omega (arith, joined 0))
-
-    -- rows and columns exchanged, and the parity track beside them
-    pub packed-is-group : (tracks p : ℕ) → bytesOf tracks ≡ tabulate 8 (column 8 (λ j. byteAt j (x + b))) → p ≡ parityByte tracks
-        → tabulate 8 (λ j. byteAt j tracks) ++ (p ∷ []) ≡ group 8 feedback (informationAt x)
-    unfolding group parityByte
-    packed-is-group tracks p columns e =
-        let track-is : (j : ℕ) → j < 8 → byteAt j tracks ≡ column 8 (character 8 feedback (informationAt x)) j =
-        λ j h. byte-of tracks _ columns j h ∙ column-ext 8 _ _ character-at j in
-        ap₂ (λ (l : List ℕ) (p : ℕ). l ++ (p ∷ []))
-        (tabulate-same 8 _ _ (λ j h. track-is j h ∙ sym (track-low 8 feedback (informationAt x) j h)))
-        (e ∙ sum-ext 8 _ _ track-is ∙ sym (track-parity 8 feedback (informationAt x)))
-        ∙ sym (tabulate-last 8 (track 8 feedback (informationAt x)))
+-- rows and columns exchanged, and the parity track beside them
+pub packed-is-group : (info : List ℕ) (tracks p : ℕ) → bytesOf tracks ≡ tabulate 8 (column 8 (character 8 feedback info)) → p ≡ parityByte tracks
+    → tabulate 8 (λ j. byteAt j tracks) ++ (p ∷ []) ≡ group 8 feedback info
+unfolding group parityByte
+packed-is-group info tracks p columns e =
+    let track-is : (j : ℕ) → j < 8 → byteAt j tracks ≡ column 8 (character 8 feedback info) j = λ j h. byte-of tracks _ columns j h in
+    ap₂ (λ (l : List ℕ) (p : ℕ). l ++ (p ∷ []))
+    (tabulate-same 8 _ _ (λ j h. track-is j h ∙ sym (track-low 8 feedback info j h)))
+    (e ∙ sum-ext 8 _ _ track-is ∙ sym (track-parity 8 feedback info))
+    ∙ sym (tabulate-last 8 (track 8 feedback info))
 
 -- ---- the nine values of a packed group
 

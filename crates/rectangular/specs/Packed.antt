@@ -28,10 +28,6 @@ placedAt track value = cond (ltb track 8) (value * 2 ^ (8 * track)) 0
 unfoldable pub valuesOf : Group → List ℕ
 valuesOf g = tabulate 8 (λ j. byteAt j (g .tracks)) ++ (g .parity ∷ [])
 
--- the information bytes of eight packed characters, B_7 first
-unfoldable pub informationAt : ℕ → List ℕ
-informationAt characters = tabulate 7 (λ k. byteAt (7 - k) characters)
-
 -- the exclusive-or of the eight track bytes
 unfoldable pub parityByte : ℕ → ℕ
 parityByte tracks = xorSum 8 (λ j. byteAt j tracks)

@@ -1,12 +1,18 @@
 // One group of the nine-track code.
-use crate::sums::check_syndrome;
-use crate::transpose::transposed;
+use generator::of_b1;
+use generator::of_b2;
+use generator::of_b3;
+use generator::of_b4;
+use generator::of_b5;
+use generator::of_b6;
+use generator::of_b7;
 ghost use mathlib.Core.Path.{_≡_};
 ghost use Prim.Native.Nat.{_<_, _≤_};
 ghost use lib.ListN.{length, getD, take};
+ghost use Rattle.indexed.specs.List.{tabulate};
 ghost use Rattle.rectangular.specs.Constants.{feedback};
 ghost use Rattle.rectangular.specs.Group as code;
-ghost use Rattle.rectangular.specs.Packed.{byteAt, valuesOf, informationAt, parityByte, placedAt};
+ghost use Rattle.rectangular.specs.Packed.{bytesOf, valuesOf, parityByte, placedAt};
 
 // The track values of a group: tracks 0 to 7, track j in bits 8j to 8j + 7, and the parity track.
 pub struct Group {
@@ -40,21 +46,6 @@ pub fn placed(track: usize, value: u8) -> u64
     }
 }
 
-// The seven information bytes in front, the first of which is B7, as characters: B7 to B1 in bytes 7 to 1.
-pub fn information(bytes: &[u8]) -> u64
-    requires { ⌜ 7 ≤ length (now bytes) ⌝ }
-    ensures characters { λ r. ⌜ informationAt r ≡ take 7 (now (bytes .entry)) ⌝ }
-    ensures check { λ r. ⌜ byteAt 0 r ≡ 0 ⌝ }
-{
-    let mut characters: u64 = 0;
-    let mut k = 0;
-    while k < 7 {
-        characters = characters * 256 + bytes[k] as u64;
-        k += 1;
-    }
-    characters * 256
-}
-
 // The exclusive-or of the eight track bytes.
 pub(crate) fn parity(tracks: u64) -> u8
     ensures { λ r. ⌜ r ≡ parityByte tracks ⌝ }
@@ -65,14 +56,27 @@ pub(crate) fn parity(tracks: u64) -> u8
     folded as u8
 }
 
-// The group that is written from seven information bytes: the check byte B0 joins them (equation (23)), and
-// rows and columns are exchanged.
-pub fn written(information: u64) -> Group
-    requires { ⌜ byteAt 0 information ≡ 0 ⌝ }
-    ensures { λ r. ⌜ valuesOf r ≡ code.group 8 feedback (informationAt information) ⌝ }
+// The tracks that are written from the seven information bytes in front, the first of which is B7: the sum of
+// what each adds.
+fn tracks(bytes: &[u8]) -> u64
+    requires { ⌜ 7 ≤ length (now bytes) ⌝ }
+    ensures { λ r. ⌜ bytesOf r ≡ tabulate 8 (code.column 8 (code.character 8 feedback (take 7 (now (bytes .entry))))) ⌝ }
 {
-    let check = check_syndrome(information);
-    let tracks = transposed(information + check as u64);
+    of_b1(bytes[6] ^ 128)
+        ^ of_b2(bytes[5] ^ 128)
+        ^ of_b3(bytes[4] ^ 128)
+        ^ of_b4(bytes[3] ^ 128)
+        ^ of_b5(bytes[2] ^ 128)
+        ^ of_b6(bytes[1] ^ 128)
+        ^ of_b7(bytes[0] ^ 128)
+}
+
+// The group that is written from the seven information bytes in front.
+pub fn written(bytes: &[u8]) -> Group
+    requires { ⌜ 7 ≤ length (now bytes) ⌝ }
+    ensures { λ r. ⌜ valuesOf r ≡ code.group 8 feedback (take 7 (now (bytes .entry))) ⌝ }
+{
+    let tracks = tracks(bytes);
     Group {
         tracks,
         parity: parity(tracks),

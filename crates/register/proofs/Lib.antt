@@ -10,3 +10,4 @@ pub mod Linear
 pub mod Exponent
 pub mod Parity
 pub mod Matrix
+pub mod Flipped

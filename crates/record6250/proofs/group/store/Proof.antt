@@ -6,8 +6,7 @@ use Prim.Native.Nat.{ℕ, _≤_, _-_}
 use native.Mathlib.Omega.{arith}
 use borrow.Author.Needs.{needs}
 use denote.Ref.{now}
-use lib.ListN.{length, getD, set, length-set}
-use Rattle.indexed.proofs.Tabulate.{length-tabulate, getD-tabulate}
+use lib.ListN.{length, set, length-set}
 use Rattle.indexed.proofs.Front.{front, front-more, front-all}
 use Rattle.group_code.specs.Code.{wordOf}
 use Rattle.rectangular.specs.Packed.{valuesOf}
@@ -16,11 +15,11 @@ use Rattle.record6250.proofs.group.store.Statement.{statement}
 use Rattle.record6250.proofs.group.store.Tie as tie
 
 abbrev Inv-loop : tie.InvT-loop
-Inv-loop words₀ group table j₀ words j =
+Inv-loop words₀ group j₀ words j =
     (j ≤ 9) × (length words ≡ length words₀) × (words ≡ front j (map wordOf (valuesOf group)) words₀)
 
 abbrev μ-loop : tie.MeasureT-loop
-μ-loop words₀ group table j₀ words j = 9 - j
+μ-loop words₀ group j₀ words j = 9 - j
 
 loop-holds : tie.Need-loop-holds Inv-loop μ-loop
 loop-holds c = (search needs, refl, refl)
@@ -28,19 +27,11 @@ loop-holds c = (search needs, refl, refl)
 value-requires : tie.Need-value-requires Inv-loop μ-loop
 value-requires c κs = search needs
 
-cast-value : tie.Need-cast-value Inv-loop μ-loop
-cast-value c = search needs
+word-requires : tie.Need-word-requires Inv-loop μ-loop
+word-requires c κs = search needs
 
 mul-words : tie.Need-mul-words Inv-loop μ-loop
 mul-words c = search needs
-
-shared-slice-read-words : tie.Need-shared-slice-read-words Inv-loop μ-loop
-shared-slice-read-words c =
-    let start = c .before .before .before .before .before .before in
-    rw (start .pre .1, length-tabulate 256 wordOf) (search needs)
-
-mul-words-2 : tie.Need-mul-words-2 Inv-loop μ-loop
-mul-words-2 c = search needs
 
 slice-write-words : tie.Need-slice-write-words Inv-loop μ-loop
 slice-write-words c = search needs
@@ -54,16 +45,13 @@ loop-less c = search needs
 loop-again : tie.Need-loop-again Inv-loop μ-loop
 loop-again c =
     let at = c .before .before .before .loop in
-    let start = c .before .before .before .before .before .before in
-    let args = start .args in
-    let value = c .before .value in
+    let args = c .before .before .before .before .before .args in
     let result : List ℕ = map wordOf (valuesOf (args .group)) in (
       search needs,
       length-set (at .words) (at .j) _ ∙ at .inv .1,
       ap₂ (λ (l : List ℕ) (w : ℕ). set l (at .j) w) (at .inv .2)
-          (ap (λ (l : List ℕ). getD l (value .result) 0) (start .pre .1)
-          ∙ getD-tabulate 256 wordOf (value .result) 0 (search needs)
-          ∙ ap wordOf (value .ensures)
+          (c .word .ensures
+          ∙ ap wordOf (c .before .value .ensures)
           ∙ sym (word-at (args .group) (at .j) (c .before .before .loop-test .taken)))
           ∙ front-more (at .j) result (now (args .words)) 0 (omega (arith, length-words (args .group))) (omega arith),
     )
@@ -74,7 +62,7 @@ same-length c = c .before .loop .inv .1
 returns : tie.Need-returns Inv-loop μ-loop
 returns c =
     let at = c .before .loop in
-    let args = c .before .before .before .before .args in
+    let args = c .before .before .before .args in
     let result : List ℕ = map wordOf (valuesOf (args .group)) in
     let all : at .j ≡ 9 = omega arith in
     at .inv .2
@@ -89,10 +77,8 @@ store-spec =
     μ-loop
     loop-holds
     value-requires
-    cast-value
+    word-requires
     mul-words
-    shared-slice-read-words
-    mul-words-2
     slice-write-words
     add-j
     loop-less
