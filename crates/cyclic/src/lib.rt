@@ -15,8 +15,8 @@ pub struct Code800 {
 }
 
 impl Code800 {
-    // What X^9 leaves modulo G = 1 + X^3 + X^4 + X^5 + X^6 + X^9.
-    pub const FEEDBACK: u16 = 121;
+    // G = 1 + X^3 + X^4 + X^5 + X^6 + X^9.
+    pub const GENERATOR: u16 = 633;
     // G2, which is added to the check character: what the check register holds after a record without error.
     pub const OFFSET: u16 = 471;
     // A record's data are at most so many bytes.
@@ -32,7 +32,7 @@ impl Code800 {
     // One step (document 003, figure 1): both registers are shifted, the character is added to the first
     // and, if its parity is wrong, X^8 to the second.
     pub fn entered(self, character: u16, wrong: u16) -> Code800
-        requires { ⌜ wrong < 2 ⌝ }
+        requires { ⌜ (self .check < 512) × (self .error < 512) × (wrong < 2) ⌝ }
         ensures { λ r. ⌜ Advanced self character wrong r ⌝ }
     {
         Code800 {
@@ -42,9 +42,16 @@ impl Code800 {
     }
 }
 
-// X times a polynomial, modulo G.
+// X times a polynomial of nine bits, modulo G (document 003, figure 1): G is added where X^9 arises. By a
+// choice, since a multiplication would stand in the chain of register steps, each of which waits for the last.
 pub fn shift(a: u16) -> u16
+    requires { ⌜ a < 512 ⌝ }
     ensures { λ r. ⌜ r ≡ timesX a ⌝ }
 {
-    (a % 256) * 2 ^ (a / 256) * Code800::FEEDBACK
+    let doubled = a * 2;
+    if doubled < 512 {
+        doubled
+    } else {
+        doubled ^ Code800::GENERATOR
+    }
 }

@@ -24,7 +24,7 @@ use Rattle.record800.specs.Read.{picture, expectedParity, wrong, checkRe
 use Rattle.record800.specs.Record.{checkSum}
 use Rattle.record800.proofs.Candidate.{expected-odd, wrong-lt}
 use Rattle.record800.proofs.Picture.{lengths-within, picture-below}
-use Rattle.record800.proofs.Registers.{sum-next}
+use Rattle.record800.proofs.Registers.{sum-fits, sum-next}
 
 -- X^8 for each wrong character: X^8 times the pattern
 error-place : (d : ℕ) → d < 2 → d * 256 ≡ shifts 9 feedback 8 d
@@ -90,6 +90,15 @@ module _ {backward : Bool} {characters : List ℕ} (passes : Passes backward cha
     last-wrong e = ap₂ (λ (p : ℕ) (b : Bool). p ⊕ cond b ((n + 1) % 2) 1) (looked-up (n + 1) e) (sym (ne-eqb (n + 1) n (λ q. omega arith)))
 
   -- ---- the registers and sums
+
+  -- what a step asks: both registers have nine bits, and the flag is a digit
+  pub step-asks : (k i : ℕ) {check error longitudinal count flag : ℕ} → After n l k check error longitudinal count → flag ≡ wrong n l i
+      → (check < 512) × (error < 512) × (flag < 2)
+  step-asks k i at is-flag = (
+    rw (at .0) (sum-fits (λ i. getD l i 0) k (λ i h. picture-below backward characters passes i)),
+    rw (at .1) (sum-fits (λ i. wrong n l i * 256) k (λ i h. omega (arith, wrong-lt n l i))),
+    rw is-flag (wrong-lt n l i),
+  )
 
   pub step : (k : ℕ) {check error longitudinal count : ℕ} → After n l k check error longitudinal count → {character flag : ℕ}
       → character ≡ getD l k 0 → flag ≡ wrong n l k

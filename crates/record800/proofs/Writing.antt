@@ -19,7 +19,7 @@ use Rattle.cyclic.specs.Constants.{feedback, timesX}
 use Rattle.record800.specs.Record.{characterOf, checkSum, checkCharacter, longitudinal, withCheck, writtenRecord}
 use Rattle.record800.specs.Written.{stored, writeAnswer}
 use Rattle.record800.proofs.Recorded.{character-lt, length-record, longitudinal-more}
-use Rattle.record800.proofs.Registers.{sum-shifted}
+use Rattle.record800.proofs.Registers.{sum-fits, sum-shifted}
 
 -- ---- the answer
 
@@ -72,6 +72,10 @@ length-stored bytes output room =
 module _ (bytes : List ℕ) (below : (k : ℕ) → getD bytes k 0 < 256) where
   abbrev characters : List ℕ
   characters = map characterOf bytes
+
+  -- the check register has nine bits
+  pub check-fits : (k check : ℕ) → check ≡ checkSum k (λ i. characterOf (getD bytes i 0)) → check < 512
+  check-fits k check e = rw e (sum-fits (λ i. characterOf (getD bytes i 0)) k (λ i h. character-lt (getD bytes i 0) (below i)))
 
   -- one shift more, and G2 added
   pub check-is : (check : ℕ) → check ≡ checkSum (length bytes) (λ k. characterOf (getD bytes k 0)) → timesX check ⊕ 471 ≡ checkCharacter characters

@@ -1,8 +1,8 @@
 -- Laws of the shift, over the width w and the feedback f: it keeps to w bits, it is linear, and powers add.
 -- Assumes nothing.
 use mathlib.Core.Path.{_≡_, refl, sym, ap, ap₂, _∙_}
-use Prim.Native.Nat.{ℕ, zero, suc, _+_, _-_, _*_, _/_, _%_, _^_, _<_}
-use native.Mathlib.Nat.{mod-lt, mod-eq-of-lt, div-eq-of-lt, zero-lt-suc, pow-suc, zero-add, suc-add, mul-comm, zero-mul, div-lt-iff-lt-mul}
+use Prim.Native.Nat.{ℕ, zero, suc, _+_, _-_, _*_, _/_, _%_, _^_, _<_, _≤_}
+use native.Mathlib.Nat.{mod-lt, mod-eq-of-lt, div-eq-of-lt, zero-lt-suc, pow-suc, zero-add, suc-add, mul-comm, zero-mul, one-mul, div-lt-iff-lt-mul, div-eq-of-lt-le, div-add-mod'}
 use native.Mathlib.Omega.{arith}
 use lib.Pow.{pow-pos, pow-lt, shr-shr}
 use lib.Arith.{mod-mul}
@@ -123,3 +123,14 @@ shifts-of-one w f (suc k) h =
     ap (shift w f) (shifts-of-one w f k (omega arith))
     ∙ shift-low w f (2 ^ k) (rw (← power) (pow-lt h))
     ∙ sym power
+
+-- a shift that pushes a digit out adds X^w + f to the double
+pub shift-high : (w f a : ℕ) → f < 2 ^ w → a < 2 ^ w → 2 ^ w ≤ 2 * a → shift w f a ≡ 2 * a ⊕ (2 ^ w + f)
+unfolding shift
+shift-high w f a hf ha h =
+    let out : 2 * a / 2 ^ w ≡ 1 = div-eq-of-lt-le (2 ^ w) (omega arith) (omega arith) in
+    let double : 1 * 2 ^ w + 2 * a % 2 ^ w ≡ 2 * a = rw out at (div-add-mod' (2 * a) (2 ^ w)) in
+    let added = xor-block w 1 1 (2 * a % 2 ^ w) f (mod-lt (2 * a) (pow-pos w)) hf in
+    ap (λ (y : ℕ). (2 * a % 2 ^ w) ⊕ y) (ap (λ (d : ℕ). d * f) out ∙ one-mul f)
+    ∙ omega (arith, added)
+    ∙ ap₂ (λ (x y : ℕ). x ⊕ (y + f)) double (one-mul (2 ^ w))

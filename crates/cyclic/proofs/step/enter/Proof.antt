@@ -75,8 +75,8 @@ module _ {M : Type 1} (𝓤 : URA M) (H : Heap 𝓤) (A : Atoms 𝓤) (W : Given
       feqI ! (List Val) (vunit ∷ []) (vunit ∷ []) refl $ move ! (1 ∷ 0 ∷ []) $ done !
 
   module _ (C : Calls 𝓤 H) (Λ : Loops 𝓤 H) (fm : FmC 𝓤 H (W .laws) C) (known : Triple 𝓤 (C #entered) (Callee 𝓤 H A entered.ended (entered.clauses 𝓤 H A mem run))) where
-    walk : n < 2 ^ 16 → k < 2 ^ 16 → k < 2 → ent 𝓤 (onEntry 𝓤 H A enter.signature (κ, tt) (q, tt) a vals) (WpFn 𝓤 H C Λ code.function (Walk .args bound) (Walk .post bound))
-    walk n-fits k-fits bit =
+    walk : n < 2 ^ 16 → k < 2 ^ 16 → (h .check < 512) × (h .error < 512) × (k < 2) → ent 𝓤 (onEntry 𝓤 H A enter.signature (κ, tt) (q, tt) a vals) (WpFn 𝓤 H C Λ code.function (Walk .args bound) (Walk .post bound))
+    walk n-fits k-fits fits =
         qed W ((‵ (flft κ q) ⊛ ‵ ftrue) ∷ ‵ (owns (MutRef (named 0) κ the-row ∷ u16 ∷ u16 ∷ []) a vals) ∷ []) ∵ enters ! C Λ code.function (Walk .args bound) _ $
         alloc1 ! (λ l₀. alloc1 ! (λ l₁. alloc1 ! (λ l₂. alloc1 ! (λ l₃. alloc1 ! (λ l₄. alloc1 ! (λ l₅. alloc0 ! $ params1 ! $
         pass1 ! (init ! 8 refl (tt, tt)) $ pass1 ! (init ! 6 refl (tt, record { fits = n-fits })) $ pass1 ! (init ! 4 refl (tt, record { fits = k-fits })) $ pass0 ! $
@@ -87,7 +87,7 @@ module _ {M : Type 1} (𝓤 : URA M) (H : Heap 𝓤) (A : Atoms 𝓤) (W : Given
         assigns ! (of-opd ! (load ! (from ! (hop ! (look ! 15 refl) (stop !))) (look-raw ! 0 refl))) (from ! (stop !)) (init ! 7 refl (typed the-type the-laws W h is)) $
         -- _4 = entered(_5, _2, _3)
         move ! (1 ∷ 6 ∷ []) $ fjoin ! $ nothing ! $ called 𝓤 H A entered.ended (entered.clauses 𝓤 H A mem run) ((tt, tt, tt, (h, a .1), (val h ∷ [], vals .1)), tt) (‵ ftrue) refl
-        (k < 2) refl (λ r _. Advanced h n k r) (λ _ _. refl) val (LL.tells the-type the-laws) ! fm known bit
+        _ refl (λ r _. Advanced h n k r) (λ _ _. refl) val (LL.tells the-type the-laws) ! fm known fits
         (and-then ! (load ! (from ! (stop !)) (look ! 6 refl)) (and-then ! (load ! (from ! (stop !)) (look ! 12 refl)) (and-then ! (load ! (from ! (stop !)) (look ! 10 refl)) (no-more !)))) (λ r _ is′ e.
         land ! (from ! (stop !)) (init ! 10 refl (typed the-type the-laws W r is′)) $
         -- [what the result owns; true; true; the registers; the open borrow; its name, twice; true; _5; …; _4; …; _3; …; _2; …; _1; …; _0; …]
@@ -108,5 +108,5 @@ enter-spec 𝓤 H 𝓜 𝓖 𝓡 =
     meets 𝓤 H 𝓜 𝓖 𝓡 code.env enter.ended stayed (enter.clauses 𝓤 H (𝓖 .A) (𝓜 .mem) (𝓡 .run))
     (λ κs. (ptr-vals, (uint-vals w16, (uint-vals w16, tt)))) (λ κs. (mut-tells (named 0) (κs .0) the-row, (uint-tells w16, (uint-tells w16, tt))))
     (goes-ref 𝓤 H (𝓖 .A) W 1 0 tt (plain (λ _. the-row)), (number, (number, tt))) #enter code.function (code.unfolded 𝓤 H 𝓜 𝓡)
-    (λ κs qs bounds a g are. needs 𝓤 (a .1 .1 .0 < 2) _
+    (λ κs qs bounds a g are. needs 𝓤 _ _
     (walk 𝓤 H (𝓖 .A) W (𝓜 .mem) (𝓡 .run) (κs .0) (qs .0) (a .0 .ptr .0) (a .0 .ptr .1) (a .0 .name) (a .0 .now) (a .1 .0) (a .1 .1 .0) _ _ (framed 𝓤 H 𝓜 𝓖 𝓡 code.env) known (are .1 .0 .1) (are .1 .1 .0 .1)))

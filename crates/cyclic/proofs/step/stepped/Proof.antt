@@ -72,8 +72,8 @@ module _ {M : Type 1} (𝓤 : URA M) (H : Heap 𝓤) (A : Atoms 𝓤) (W : Given
       says ! e $ nothing ! $ frame ! $ nothing ! $ nothing ! $ nothing ! $ nothing ! $ fjoin3 ! $ move ! (1 ∷ 0 ∷ []) $ fjoin ! $ done !
 
   module _ (C : Calls 𝓤 H) (Λ : Loops 𝓤 H) (fm : FmC 𝓤 H (W .laws) C) (known : Triple 𝓤 (C #enter) (Callee 𝓤 H A enter.ended (enter.clauses 𝓤 H A mem run))) where
-    walk : Is the-row h (val h ∷ []) → n < 2 ^ 16 → k < 2 ^ 16 → k < 2 → ent 𝓤 (onEntry 𝓤 H A stepped.signature tt tt a vals) (WpFn 𝓤 H C Λ code.function (Walk .args bound) (Walk .post bound))
-    walk is n-fits k-fits bit =
+    walk : Is the-row h (val h ∷ []) → n < 2 ^ 16 → k < 2 ^ 16 → (h .check < 512) × (h .error < 512) × (k < 2) → ent 𝓤 (onEntry 𝓤 H A stepped.signature tt tt a vals) (WpFn 𝓤 H C Λ code.function (Walk .args bound) (Walk .post bound))
+    walk is n-fits k-fits fits =
         qed W (‵ ftrue ∷ ‵ (owns (the-row ∷ u16 ∷ u16 ∷ []) a vals) ∷ []) ∵ drop ! $ enters ! C Λ code.function (Walk .args bound) _ $
         alloc1 ! (λ l₀. alloc1 ! (λ l₁. alloc1 ! (λ l₂. alloc1 ! (λ l₃. alloc1 ! (λ l₄. alloc1 ! (λ l₅. alloc1 ! (λ l₆. alloc0 ! $ params1 ! $
         pass1 ! (init ! 10 refl (typed the-type the-laws W h is)) $ pass1 ! (init ! 8 refl (tt, record { fits = n-fits })) $ pass1 ! (init ! 6 refl (tt, record { fits = k-fits })) $ pass0 ! $
@@ -87,7 +87,7 @@ module _ {M : Type 1} (𝓤 : URA M) (H : Heap 𝓤) (A : Atoms 𝓤) (W : Given
         -- _5 = enter(_6, _2, _3)
         move ! (0 ∷ 3 ∷ []) $ fjoin ! $ nothing ! $ move ! (3 ∷ 0 ∷ []) $ join ! $
         called 𝓤 H A enter.ended (enter.clauses 𝓤 H A mem run) (((α ∷ [], tt), (fullShare, tt), tt, (lent l₄ 0 δ h, a .1), (vptr l₄ 0 ∷ [], vals .1)), tt) (‵ (flft (α ∷ []) fullShare) ⊛ ‵ ftrue) refl
-        (k < 2) refl (λ _ zs. Advanced h n k (zs .0)) (λ _ _. refl) (λ _. vunit) nothing-tells ! fm known bit
+        _ refl (λ _ zs. Advanced h n k (zs .0)) (λ _ _. refl) (λ _. vunit) nothing-tells ! fm known fits
         (and-then ! (load ! (from ! (stop !)) (look ! 2 refl)) (and-then ! (load ! (from ! (stop !)) (look ! 9 refl)) (and-then ! (load ! (from ! (stop !)) (look ! 7 refl)) (no-more !)))) (λ _ zs _ e.
         land ! (from ! (stop !)) (init ! 6 refl (tt, tt)) $
         -- [what the result owns; the last values; the token; the lender's part; _6; …]: the lifetime is ended, and _4 is had again at its last value
@@ -108,4 +108,4 @@ stepped-spec 𝓤 H 𝓜 𝓖 𝓡 =
     meets 𝓤 H 𝓜 𝓖 𝓡 code.env stepped.ended stayed (stepped.clauses 𝓤 H (𝓖 .A) (𝓜 .mem) (𝓡 .run))
     (λ κs. (LL.vals the-type the-laws, (uint-vals w16, (uint-vals w16, tt)))) (λ κs. (LL.tells the-type the-laws, (uint-tells w16, (uint-tells w16, tt))))
     (goes-dropped 𝓤 H (𝓖 .A) W 0 (plain (λ _. the-row)) yes (λ κs x f. refl), (number, (number, tt))) #stepped code.function (code.unfolded 𝓤 H 𝓜 𝓡)
-    (λ κs qs bounds a g are. needs 𝓤 (a .1 .1 .0 < 2) _ (walk 𝓤 H (𝓖 .A) W (𝓜 .mem) (𝓡 .run) (a .0) (a .1 .0) (a .1 .1 .0) _ _ (framed 𝓤 H 𝓜 𝓖 𝓡 code.env) known (are .0) (are .1 .0 .1) (are .1 .1 .0 .1)))
+    (λ κs qs bounds a g are. needs 𝓤 _ _ (walk 𝓤 H (𝓖 .A) W (𝓜 .mem) (𝓡 .run) (a .0) (a .1 .0) (a .1 .1 .0) _ _ (framed 𝓤 H 𝓜 𝓖 𝓡 code.env) known (are .0) (are .1 .0 .1) (are .1 .1 .0 .1)))

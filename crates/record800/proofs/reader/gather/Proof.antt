@@ -10,8 +10,7 @@ use Rattle.indexed.specs.List.{total}
 use Rattle.register.specs.Sum.{xorSum}
 use Rattle.record800.specs.Read.{picture, wrongCount}
 use Rattle.record800.specs.Record.{checkSum}
-use Rattle.record800.proofs.Candidate.{wrong-lt}
-use Rattle.record800.proofs.Gathering.{After, few-wrong, in-table, data-wrong, check-wrong, last-wrong, step, finish}
+use Rattle.record800.proofs.Gathering.{After, few-wrong, in-table, data-wrong, check-wrong, last-wrong, step-asks, step, finish}
 use Rattle.record800.proofs.Picture.{lengths-within}
 use Rattle.record800.proofs.reader.gather.Statement.{statement}
 use Rattle.record800.proofs.reader.gather.Tie as tie
@@ -50,7 +49,8 @@ shared-slice-read-off c =
 stepped-requires : tie.Need-stepped-requires Inv-loop μ-loop
 stepped-requires c κs =
     let start = c .before .before .before .before .before .before .before in
-    rw (data-wrong (start .pre .0) (start .pre .1) _ (c .before .forward-character .ensures) (c .before .before .loop-test .taken)) (wrong-lt _ _ _)
+    let is-flag = data-wrong (start .pre .0) (start .pre .1) _ (c .before .forward-character .ensures) (c .before .before .loop-test .taken) in
+    step-asks (start .pre .0) _ _ (c .before .before .before .loop .inv .1) is-flag
 
 loop-again : tie.Need-loop-again Inv-loop μ-loop
 loop-again c =
@@ -113,7 +113,8 @@ shared-slice-read-last-off c =
 stepped-requires-2 : tie.Need-stepped-requires-2 Inv-loop μ-loop
 stepped-requires-2 c κs =
     let start = c .before .before .before .before .before .before .before .before .before in
-    rw (check-wrong (start .pre .0) (start .pre .1) (c .before .before .before .forward-character2 .ensures)) (wrong-lt _ _ _)
+    let is-flag = check-wrong (start .pre .0) (start .pre .1) (c .before .before .before .forward-character2 .ensures) in
+    step-asks (start .pre .0) _ _ (c .before .before .before .before .before .loop .inv .1) is-flag
 
 returns : tie.Need-returns Inv-loop μ-loop
 returns c =

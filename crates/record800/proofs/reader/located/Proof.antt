@@ -12,6 +12,7 @@ use lib.Pow.{shl-exact}
 use Rattle.indexed.specs.List.{tabulate, tabulateFrom, below, keep}
 use Rattle.register.specs.Shift.{shifts}
 use Rattle.register.specs.Xor.{_⊕_}
+use Rattle.register.proofs.Shift.{shifts-lt}
 use Rattle.cyclic.specs.Constants.{feedback, offset, timesX}
 use Rattle.record800.specs.Told.{FoundIs}
 use Rattle.record800.proofs.Tracks.{kept-next, kept-count}
@@ -56,7 +57,9 @@ counted-requires c κs =
     )
 
 shift-requires : tie.Need-shift-requires Inv-loop μ-loop
-shift-requires c κs = search needs
+shift-requires c κs =
+    let at = c .before .before .before .loop in
+    rw (at .inv .2) (shifts-lt 9 feedback (at .j) _ (omega arith) (c .before .before .before .before .pre .0))
 
 add-j : tie.Need-add-j Inv-loop μ-loop
 add-j c = search needs

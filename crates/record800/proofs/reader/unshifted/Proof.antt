@@ -5,6 +5,7 @@ use Prim.Native.Nat.{ℕ, _-_, _≤_}
 use native.Mathlib.Numerals.{add-one}
 use native.Mathlib.Omega.{arith}
 use Rattle.register.specs.Shift.{shifts}
+use Rattle.register.proofs.Shift.{shifts-lt}
 use Rattle.cyclic.specs.Constants.{feedback, timesX}
 use borrow.Author.Needs.{needs}
 use Rattle.record800.proofs.reader.unshifted.Statement.{statement}
@@ -21,7 +22,9 @@ unfolding shifts
 loop-holds c = (search needs, refl)
 
 shift-requires : tie.Need-shift-requires Inv-loop μ-loop
-shift-requires c κs = search needs
+shift-requires c κs =
+    let at = c .before .loop in
+    rw (at .inv .1) (shifts-lt 9 feedback (at .k) _ (omega arith) (c .before .before .pre))
 
 add-k : tie.Need-add-k Inv-loop μ-loop
 add-k c = search needs

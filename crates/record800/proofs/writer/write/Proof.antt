@@ -10,7 +10,7 @@ use lib.ListN.{length, getD, set, length-set}
 use Rattle.register.specs.Xor.{_⊕_}
 use Rattle.answer.specs.Answer.{outputAfter}
 use Rattle.record800.specs.Written.{stored}
-use Rattle.record800.proofs.Writing.{empty-refused, long-refused, space-refused, written-answer, check-is, length-stored, all-stored}
+use Rattle.record800.proofs.Writing.{empty-refused, long-refused, space-refused, written-answer, check-fits, check-is, length-stored, all-stored}
 use Rattle.record800.proofs.writer.write.Statement.{statement}
 use Rattle.record800.proofs.writer.write.Tie as tie
 
@@ -43,7 +43,10 @@ write-data-requires : tie.Need-write-data-requires
 write-data-requires c κs = search needs
 
 shift-requires : tie.Need-shift-requires
-shift-requires c κs = search needs
+shift-requires c κs =
+    let data-written = c .before .before in
+    let entry = data-written .before .before .before .before .before .before .before .before in
+    check-fits (now (entry .before .args .bytes)) (λ k. entry .shared-slice-known .given k .fits) _ _ (data-written .write-data .ensures .1 .0)
 
 mul-characters : tie.Need-mul-characters
 mul-characters c = search needs

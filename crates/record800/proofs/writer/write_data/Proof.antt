@@ -19,6 +19,7 @@ use Rattle.record800.specs.Record.{characterOf, checkSum, longitudinal}
 use Rattle.record800.specs.Written.{stored}
 use Rattle.record800.proofs.Registers.{sum-next}
 use Rattle.record800.proofs.Recorded.{character-lt}
+use Rattle.record800.proofs.Writing.{check-fits}
 use Rattle.record800.proofs.writer.write_data.Statement.{statement}
 use Rattle.record800.proofs.writer.write_data.Tie as tie
 
@@ -54,7 +55,9 @@ slice-write-characters : tie.Need-slice-write-characters Inv-loop μ-loop
 slice-write-characters c = search needs
 
 shift-requires : tie.Need-shift-requires Inv-loop μ-loop
-shift-requires c κs = search needs
+shift-requires c κs =
+    let bytes = now (c .before .before .before .before .before .before .before .args .bytes) in
+    check-fits bytes (λ i. c .before .shared-slice-known3 .given i .fits) _ _ (c .before .before .before .loop .inv .3)
 
 add-k : tie.Need-add-k Inv-loop μ-loop
 add-k c = search needs
