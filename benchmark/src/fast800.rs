@@ -4,7 +4,7 @@
 use crate::Answer;
 
 const MOST_DATA: usize = 2048;
-const FEEDBACK: u16 = 121;
+const GENERATOR: u16 = 633;
 const OFFSET: u16 = 471;
 
 const fn parities() -> [u8; 512] {
@@ -25,10 +25,10 @@ fn parity(character: u16) -> u16 {
 
 fn shifted(a: u16) -> u16 {
     let doubled = a << 1;
-    if doubled & 512 == 0 {
+    if doubled < 512 {
         doubled
     } else {
-        doubled & 511 ^ FEEDBACK
+        doubled ^ GENERATOR
     }
 }
 

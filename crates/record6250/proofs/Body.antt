@@ -4,7 +4,7 @@ use mathlib.Core.Path.{_≡_, refl, sym, ap, _∙_}
 use mathlib.Core.List.{List, [], _∷_, _++_, append-assoc}
 use Prim.Native.Nat.{ℕ, zero, suc, _-_, _*_, _/_, _%_, _<_, _≤_}
 use native.Mathlib.Omega.{arith}
-use lib.ListN.{length, take, drop, set, replicate, length-append, length-take, length-drop, length-replicate}
+use lib.ListN.{length, take, drop, set, replicate, length-append, length-drop, length-replicate}
 use lib.Seq.{drop-append-le, take-append-le, take-all, set-at}
 use Rattle.record6250.specs.Record.{padding, body, groupBytes}
 
@@ -41,11 +41,6 @@ module _ (bytes : List ℕ) where
         length-append (replicate (6 - length bytes % 7) 0) ((6 - length bytes % 7) ∷ []),
         length-replicate {A = ℕ} (6 - length bytes % 7) 0,
       ))
-
--- a group is no longer than seven bytes
-pub group-whole : (g : ℕ) (l : List ℕ) → take 7 (groupBytes g l) ≡ groupBytes g l
-unfolding groupBytes
-group-whole g l = take-all 7 (take 7 (drop (7 * g) l)) (omega (arith, length-take 7 (drop (7 * g) l)))
 
 -- seven zeros, of which some are in use and the last is set
 zeros-left : (r : ℕ) → r < 7 → drop {A = ℕ} r (replicate 7 0) ≡ replicate (6 - r) 0 ++ (0 ∷ [])

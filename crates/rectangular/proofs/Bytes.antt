@@ -2,11 +2,9 @@
 -- Assumes nothing.
 use mathlib.Core.Path.{_≡_, sym, ap, _∙_}
 use mathlib.Core.List.{List}
-use Prim.Native.Nat.{ℕ, suc, _+_, _*_, _/_, _%_, _^_, _<_}
+use Prim.Native.Nat.{ℕ, _+_, _*_, _/_, _^_, _<_}
 use native.Mathlib.Nat.{mod-lt, zero-lt-suc}
-use native.Mathlib.Omega.{arith}
 use lib.ListN.{getD}
-use lib.Pow.{shr-shr}
 use Rattle.indexed.specs.List.{tabulate}
 use Rattle.indexed.proofs.Tabulate.{getD-tabulate}
 use Rattle.register.specs.Bit.{bit}
@@ -20,19 +18,6 @@ bit-byte x j r h = bit-mod r 8 (x / 2 ^ (8 * j)) h ∙ bit-shr r (8 * j) x
 pub byte-lt : (j x : ℕ) → byteAt j x < 256
 unfolding byteAt
 byte-lt j x = mod-lt (x / 2 ^ (8 * j)) (zero-lt-suc 255)
-
--- a byte that is put below a number: it is the first, and the others follow
-pub byte-first : (x b : ℕ) → b < 256 → byteAt 0 (x * 256 + b) ≡ b
-unfolding byteAt
-byte-first x b h = omega arith
-
-pub byte-next : (i x b : ℕ) → b < 256 → byteAt (suc i) (x * 256 + b) ≡ byteAt i x
-unfolding byteAt
-byte-next i x b h =
-    let place : 8 + 8 * i ≡ 8 * suc i = omega arith in
-    let upper : (x * 256 + b) / 2 ^ 8 ≡ x = omega arith in
-    ap (λ (n : ℕ). n % 256)
-    (ap (λ (n : ℕ). (x * 256 + b) / 2 ^ n) (sym place) ∙ sym (shr-shr (x * 256 + b) 8 (8 * i)) ∙ ap (λ (n : ℕ). n / 2 ^ (8 * i)) upper)
 
 pub byte-of : (x : ℕ) (f : ℕ → ℕ) → bytesOf x ≡ tabulate 8 f → (k : ℕ) → k < 8 → byteAt k x ≡ f k
 unfolding bytesOf

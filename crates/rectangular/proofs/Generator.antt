@@ -22,7 +22,7 @@ use Rattle.generator.specs.Columns.{part1, part2, part3, part4, part5, part6, p
 use Rattle.rectangular.specs.Constants.{feedback}
 use Rattle.rectangular.specs.Correction.{errorAt}
 use Rattle.rectangular.specs.Group.{information, check, character, column}
-use Rattle.rectangular.specs.Packed.{byteAt, bytesOf}
+use Rattle.rectangular.specs.Packed.{bytesOf}
 use Rattle.rectangular.proofs.Bytes.{bit-byte, byte-lt}
 use Rattle.rectangular.proofs.Symmetry.{column-lt, bit-column}
 use Rattle.rectangular.proofs.Syndrome.{error-here, error-elsewhere}

@@ -2,10 +2,10 @@
 -- Assumes nothing.
 use mathlib.Core.Path.{_≡_, sym, ap, ap₂, _∙_}
 use mathlib.Core.List.{List, [], _∷_, _++_}
-use Prim.Native.Nat.{ℕ, zero, suc, _+_, _-_, _*_, _/_, _%_, _^_, _<_}
-use native.Mathlib.Nat.{div-one, add-zero, zero-lt-suc}
+use Prim.Native.Nat.{ℕ, _+_, _/_, _%_, _^_, _<_}
+use native.Mathlib.Nat.{div-one}
 use native.Mathlib.Omega.{arith}
-use lib.Bits.{xor-shr, xor-mod, xor-zero-l}
+use lib.Bits.{xor-shr, xor-mod}
 use lib.ListN.{length, getD, length-append, List·getD-append}
 use lib.Seq.{getD-at}
 use lib.Pow.{shr-shr}
@@ -14,16 +14,14 @@ use Rattle.indexed.proofs.Tabulate.{length-tabulate, getD-tabulate, tabulate-sa
 use Rattle.register.specs.Shift.{shifts}
 use Rattle.register.specs.Sum.{xorSum}
 use Rattle.register.specs.Xor.{_⊕_}
-use Rattle.register.proofs.Shift.{shifts-zero}
-use Rattle.register.proofs.Sum.{sum-ext, sum-first, sum-last}
+use Rattle.register.proofs.Sum.{sum-ext, sum-last}
 use Rattle.register.proofs.Xor.{xor-assoc, xor-left-comm}
 use Rattle.rectangular.specs.Constants.{feedback}
 use Rattle.rectangular.specs.Correction.{paritySyndrome, checkSyndrome}
-use Rattle.rectangular.specs.Group.{information, check, character, column, track, group}
+use Rattle.rectangular.specs.Group.{character, column, track, group}
 use Rattle.rectangular.specs.Packed.{byteAt, bytesOf, valuesOf, parityByte}
 use Rattle.rectangular.specs.declared.group.Group.{Group}
-use Rattle.rectangular.proofs.Bytes.{byte-first, byte-next, byte-of}
-use Rattle.rectangular.proofs.Symmetry.{column-ext}
+use Rattle.rectangular.proofs.Bytes.{byte-of}
 use Rattle.rectangular.proofs.Equations.{track-low, track-parity}
 
 -- ---- folding

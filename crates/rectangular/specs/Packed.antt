@@ -3,7 +3,7 @@
 -- Assumes nothing.
 use mathlib.Core.Bool.{cond}
 use mathlib.Core.List.{List, [], _∷_, _++_}
-use Prim.Native.Nat.{ℕ, _-_, _*_, _/_, _%_, _^_}
+use Prim.Native.Nat.{ℕ, _*_, _/_, _%_, _^_}
 use lib.Bits.{bitAnd}
 use lib.Dec.{ltb}
 use Rattle.indexed.specs.List.{tabulate}

@@ -17,7 +17,7 @@ ghost use Rattle.register.specs.Xor.{_⊕_};
 ghost use Rattle.rectangular.specs.Constants.{feedback, exponent};
 ghost use Rattle.rectangular.specs.Correction.{pointedTracks, paritySyndrome, checkSyndrome, weighed, secondError, errorAt, oneTrack, twoTracks, judged};
 ghost use Rattle.rectangular.specs.Judged.{correctedValues, toldJudged, toldChanged, changedBy, changedMap, markAt};
-ghost use Rattle.rectangular.specs.Packed.{byteAt, valuesOf};
+ghost use Rattle.rectangular.specs.Packed.{valuesOf};
 
 // The values of the group that fits, and the tracks in which it differs from what was read.
 pub struct Correction {
