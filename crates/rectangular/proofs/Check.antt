@@ -3,18 +3,19 @@
 -- Assumes nothing.
 use mathlib.Core.Path.{_≡_, sym, ap, ap₂, _∙_}
 use Prim.Native.Nat.{ℕ, _*_, _/_, _%_, _^_, _<_}
-use native.Mathlib.Nat.{zero-lt-suc, lt-trans, lt-of-lt-of-le, mul-lt-mul-of-pos-right, mul-le-mul-left, div-lt-iff-lt-mul}
 use native.Mathlib.Omega.{arith}
 use lib.Bits.{bitAnd, xor-shr, xor-mod}
-use lib.Pow.{pow-pos, pow-mono}
+use Rattle.indexed.specs.Rule.{valueAt}
 use Rattle.indexed.proofs.Test.{equal, equal₂}
+use Rattle.register.specs.Matrix.{product}
 use Rattle.register.specs.Shift.{shift, shifts}
 use Rattle.register.specs.Sum.{xorSum}
 use Rattle.register.specs.Xor.{_⊕_}
 use Rattle.register.proofs.And.{and-xor}
 use Rattle.register.proofs.Linear.{Linear, shl-xor, linear-agree}
-use Rattle.register.proofs.Sum.{sum-ext, sum-lt, sum-xor, sum-mod, sum-shr, shifts-sum}
-use Rattle.register.proofs.Xor.{xor-assoc, xor-swap}
+use Rattle.register.proofs.Sum.{sum-ext, sum-xor, sum-mod, sum-shr, shifts-sum}
+use Rattle.register.proofs.Xor.{xor-swap}
+use Rattle.remainder.specs.Power.{eighthPower}
 use Rattle.rectangular.specs.Constants.{feedback}
 use Rattle.rectangular.specs.Correction.{checkSyndrome}
 use Rattle.rectangular.specs.Packed.{byteAt}
@@ -71,55 +72,46 @@ summed-is = linear-agree 64 summed productSum summed-linear product-sum-linear a
 
 -- ---- the sum reduced
 
--- a term T^i b: the lowest eight bits of X^i b, and what the others leave
-term : (i b : ℕ) → i < 8 → b < 256 → shifts 8 feedback i b ≡ (b * 2 ^ i % 256) ⊕ shifts 8 feedback 8 (b * 2 ^ i / 256)
+-- what the table gives for the seven bits above: a test of every entry
+eighth : (h : ℕ) → h < 128 → valueAt (product eighthPower) h % 256 ≡ shifts 8 feedback 8 h
 unfolding shift shifts
-term = equal₂ 8 256 (λ i b. shifts 8 feedback i b) (λ i b. (b * 2 ^ i % 256) ⊕ shifts 8 feedback 8 (b * 2 ^ i / 256)) tt
+eighth = equal 128 (λ h. valueAt (product eighthPower) h % 256) (shifts 8 feedback 8) tt
 
--- seven bits above, reduced four and three at a time
-parts : (h : ℕ) → h < 128 → shifts 8 feedback 8 h ≡ shifts 8 feedback 8 (h % 16) ⊕ shifts 8 feedback 12 (h / 16)
+pub reduced-is : (s r : ℕ) → r ≡ valueAt (product eighthPower) (s / 256 % 128)
+    → (s ⊕ r) % 256 ≡ (s % 256) ⊕ shifts 8 feedback 8 (s / 256 % 128)
+reduced-is s r e =
+    xor-mod s r 8
+    ∙ ap (λ (u : ℕ). (s % 256) ⊕ u) (ap (λ (u : ℕ). u % 256) e ∙ eighth (s / 256 % 128) (omega arith))
+
+-- a term T^i b: the lowest eight bits of X^i b, and what the others leave. X^i b fits in 64 bits.
+pub term : (i b : ℕ) → i < 8 → b < 256 → shifts 8 feedback i b ≡ (b * 2 ^ i % 256) ⊕ shifts 8 feedback 8 (b * 2 ^ i / 256 % 128)
 unfolding shift shifts
-parts = equal 128 (shifts 8 feedback 8) (λ h. shifts 8 feedback 8 (h % 16) ⊕ shifts 8 feedback 12 (h / 16)) tt
+term = equal₂ 8 256 (λ i b. shifts 8 feedback i b) (λ i b. (b * 2 ^ i % 256) ⊕ shifts 8 feedback 8 (b * 2 ^ i / 256 % 128)) tt
+
+pub term-fits : (i b : ℕ) → i < 8 → b < 256 → b * 2 ^ i % 2 ^ 64 ≡ b * 2 ^ i
+term-fits = equal₂ 8 256 (λ i b. b * 2 ^ i % 2 ^ 64) (λ i b. b * 2 ^ i) tt
 
 module _ (x : ℕ) where
-  product : ℕ → ℕ
-  product j = byteAt j x * 2 ^ j
+  moved : ℕ → ℕ
+  moved j = byteAt j x * 2 ^ j
 
   above : ℕ → ℕ
-  above j = product j / 256
+  above j = moved j / 256 % 128
 
-  above-lt : (j : ℕ) → j < 8 → above j < 2 ^ 7
-  unfolding above product
-  above-lt j h =
-      div-lt-iff-lt-mul (zero-lt-suc 255) .1
-      (lt-of-lt-of-le (mul-lt-mul-of-pos-right (byte-lt j x) (pow-pos j)) (mul-le-mul-left 256 (pow-mono {j = 7} (omega arith))))
-
-  sum-above-lt : xorSum 8 product / 256 < 128
+  sum-above : xorSum 8 moved / 256 % 128 ≡ xorSum 8 above
   unfolding above
-  sum-above-lt = rw (sum-shr 8 8 product) (sum-lt 7 8 above above-lt)
+  sum-above = ap (λ (u : ℕ). u % 128) (sum-shr 8 8 moved) ∙ sum-mod 7 8 (λ j. moved j / 256)
 
-  reduced-above : xorSum 8 (λ j. shifts 8 feedback 8 (above j)) ≡ shifts 8 feedback 8 (xorSum 8 product / 256)
+  above-lt : (j : ℕ) → above j < 256
   unfolding above
-  reduced-above =
-      sym (shifts-sum 8 feedback 8 8 above (omega arith) (λ j h. lt-trans (above-lt j h) (omega arith)))
-      ∙ ap (shifts 8 feedback 8) (sym (sum-shr 8 8 product))
+  above-lt j = omega arith
 
-  pub sum-reduced : (s low middle high : ℕ) → s ≡ xorSum 8 (λ j. byteAt j x * 2 ^ j)
-      → low ≡ s % 256 → middle ≡ shifts 8 feedback 8 (s / 256 % 16) → high ≡ shifts 8 feedback 12 (s / 4096 % 8)
-      → low ⊕ middle ⊕ high ≡ checkSyndrome 8 feedback (λ j. byteAt j x)
-  unfolding checkSyndrome above product
-  sum-reduced s low middle high e l m h =
-      let seven : s / 256 < 128 = rw e sum-above-lt in
-      let three : s / 4096 % 8 ≡ s / 256 / 16 = omega arith in
-      xor-assoc low middle high
-      ∙ ap₂ _⊕_ l (ap₂ _⊕_ m (h ∙ ap (shifts 8 feedback 12) three) ∙ sym (parts (s / 256) seven))
-      ∙ ap (λ (u : ℕ). (u % 256) ⊕ shifts 8 feedback 8 (u / 256)) e
-      ∙ ap₂ _⊕_ (sum-mod 8 8 product) (sym reduced-above)
-      ∙ sym (sum-xor 8 (λ j. product j % 256) (λ j. shifts 8 feedback 8 (above j)))
-      ∙ sym (sum-ext 8 _ _ (λ j b. term j (byteAt j x) b (byte-lt j x)))
-
--- the syndrome of a byte in one track alone: a test of every track and byte
-pub syndrome-of-one : (i b : ℕ) → i < 8 → b < 256 → checkSyndrome 8 feedback (λ j. byteAt j (b * 2 ^ (8 * i) % 2 ^ 64)) ≡ shifts 8 feedback i b
-unfolding checkSyndrome xorSum byteAt shift shifts
-syndrome-of-one =
-    equal₂ 8 256 (λ i b. checkSyndrome 8 feedback (λ j. byteAt j (b * 2 ^ (8 * i) % 2 ^ 64))) (λ i b. shifts 8 feedback i b) tt
+  pub sum-reduced : (s : ℕ) → s ≡ xorSum 8 (λ j. byteAt j x * 2 ^ j)
+      → (s % 256) ⊕ shifts 8 feedback 8 (s / 256 % 128) ≡ checkSyndrome 8 feedback (λ j. byteAt j x)
+  unfolding checkSyndrome above moved
+  sum-reduced s e =
+      ap (λ (u : ℕ). (u % 256) ⊕ shifts 8 feedback 8 (u / 256 % 128)) e
+      ∙ ap₂ _⊕_ (sum-mod 8 8 moved)
+      (ap (shifts 8 feedback 8) sum-above ∙ shifts-sum 8 feedback 8 8 above (omega arith) (λ j _. above-lt j))
+      ∙ sym (sum-xor 8 (λ j. moved j % 256) (λ j. shifts 8 feedback 8 (above j)))
+      ∙ sym (sum-ext 8 _ _ (λ j h. term j (byteAt j x) h (byte-lt j x)))

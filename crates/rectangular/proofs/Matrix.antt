@@ -68,9 +68,6 @@ product-linear F linear columns e x h =
     sum-ext 8 _ _ (λ k b. ap (λ (c : ℕ). bit k x * c) (byte-of columns (λ k. F (2 ^ k)) e k b))
     ∙ sym (linear-expanded 8 F linear x h)
 
-pub shifts-linear : (w f k : ℕ) → f < 2 ^ w → Linear w (shifts w f k)
-shifts-linear w f k hf a b ha hb = shifts-xor w f k a b hf ha hb
-
 pub erasure-linear : (w f n d : ℕ) → f < 2 ^ w → Linear w (erasure w f n d)
 unfolding erasure
 erasure-linear w f n d hf a b ha hb =

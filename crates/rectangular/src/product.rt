@@ -1,7 +1,8 @@
-// Products of matrices of eight by eight bits with a byte: those of equations (20) and (21) of document
-// 000, which give the errors of two tracks. A matrix is its eight columns in one number, column k, which
-// is the product with 2^k, in byte k.
+// Products with a byte: those of equations (20) and (21) of document 000, which give the errors of two tracks.
+// A matrix of eight by eight bits is its eight columns in one number, column k, which is the product with
+// 2^k, in byte k.
 use crate::group::parity;
+use remainder::restored;
 ghost use mathlib.Core.Path.{_≡_};
 ghost use Prim.Native.Nat.{_-_, _^_, _<_, _≤_};
 ghost use Rattle.indexed.specs.List.{tabulate};
@@ -37,23 +38,6 @@ fn erasure_columns(d: usize) -> u64
     }
 }
 
-// T to the power -i, of equations (20) and (21).
-fn backward_columns(i: usize) -> u64
-    requires { ⌜ i < 8 ⌝ }
-    ensures { λ r. ⌜ bytesOf r ≡ tabulate 8 (λ k. shifts 8 feedback (exponent - i) (2 ^ k)) ⌝ }
-{
-    match i {
-        0 => 0x8040201008040201,
-        1 => 0x402010080402019C,
-        2 => 0x2010080402019C4E,
-        3 => 0x10080402019C4E27,
-        4 => 0x080402019C4E278F,
-        5 => 0x0402019C4E278FDB,
-        6 => 0x02019C4E278FDBF1,
-        _ => 0x019C4E278FDBF1E4,
-    }
-}
-
 // The inverse of I + T^d times x.
 pub(crate) fn erasure_product(d: usize, x: u8) -> u8
     requires { ⌜ (1 ≤ d) × (d ≤ 7) ⌝ }
@@ -62,10 +46,13 @@ pub(crate) fn erasure_product(d: usize, x: u8) -> u8
     applied(erasure_columns(d), x)
 }
 
-// T^-i times x.
+// T^-i times x: x shifted down, and what the i bits leave that fall out. Those are moved up to stand as the
+// highest of seven, so that one table serves every i.
 pub(crate) fn backward_power(i: usize, x: u8) -> u8
     requires { ⌜ i < 8 ⌝ }
     ensures { λ r. ⌜ r ≡ shifts 8 feedback (exponent - i) x ⌝ }
 {
-    applied(backward_columns(i), x)
+    let byte = x as u64;
+    let low = (byte << (7 - i)) % 128;
+    (((byte >> i) ^ restored(low as u8)) % 256) as u8
 }

@@ -1,51 +1,14 @@
 // Sums of powers of T: the check syndrome (document 000, equation (14)), and with it the check byte and the
 // products T^i x. Bytes are packed in one number, byte j in bits 8j to 8j + 7.
+use remainder::reduced;
 ghost use mathlib.Core.Path.{_≡_};
-ghost use Prim.Native.Nat.{_*_, _^_, _<_};
+ghost use Prim.Native.Nat.{_*_, _/_, _%_, _^_, _<_};
 ghost use Rattle.register.specs.Shift.{shifts};
 ghost use Rattle.register.specs.Sum.{xorSum};
+ghost use Rattle.register.specs.Xor.{_⊕_};
 ghost use Rattle.rectangular.specs.Constants.{feedback};
 ghost use Rattle.rectangular.specs.Correction.{checkSyndrome};
 ghost use Rattle.rectangular.specs.Packed.{byteAt};
-
-// What n X^8 leaves modulo g = 1 + X^3 + X^4 + X^5 + X^8, for an n of four bits.
-const LOW: [u8; 16] = [
-    0,
-    57,
-    114,
-    75,
-    228,
-    221,
-    150,
-    175,
-    241,
-    200,
-    131,
-    186,
-    21,
-    44,
-    103,
-    94,
-];
-
-// What n X^12 leaves, for an n of three bits.
-const HIGH: [u8; 8] = [0, 219, 143, 84, 39, 252, 168, 115];
-
-fn low_reduced(n: u8) -> u8
-    requires { ⌜ n < 16 ⌝ }
-    ensures { λ r. ⌜ r ≡ shifts 8 feedback 8 n ⌝ }
-{
-    let index = n as usize;
-    LOW[index]
-}
-
-fn high_reduced(n: u8) -> u8
-    requires { ⌜ n < 8 ⌝ }
-    ensures { λ r. ⌜ r ≡ shifts 8 feedback 12 n ⌝ }
-{
-    let index = n as usize;
-    HIGH[index]
-}
 
 // The sum of X^j Z_j, unreduced, which has 15 bits: tracks are added two by two, then the sums of two, then
 // those of four.
@@ -57,21 +20,24 @@ fn sum(tracks: u64) -> u64
     (fours & 0x00000000FFFFFFFF) ^ ((fours & 0xFFFFFFFF00000000) >> 28)
 }
 
-// The check syndrome S2: the sum, reduced.
+// A sum of 15 bits, reduced modulo g: its lowest eight bits, and what the seven above them leave.
+fn reduced_sum(sum: u64) -> u8
+    ensures { λ r. ⌜ r ≡ (sum % 256) ⊕ shifts 8 feedback 8 (sum / 256 % 128) ⌝ }
+{
+    ((sum ^ reduced((sum / 256 % 128) as u8)) % 256) as u8
+}
+
+// The check syndrome S2.
 pub(crate) fn check_syndrome(tracks: u64) -> u8
     ensures { λ r. ⌜ r ≡ checkSyndrome 8 feedback (λ j. byteAt j tracks) ⌝ }
 {
-    let sum = sum(tracks);
-    let low = (sum % 256) as u8;
-    let middle = low_reduced((sum / 256 % 16) as u8);
-    let high = high_reduced((sum / 4096 % 8) as u8);
-    low ^ middle ^ high
+    reduced_sum(sum(tracks))
 }
 
-// T^i times x: the syndrome of x in track i alone.
+// T^i times x: what X^i x leaves.
 pub(crate) fn forward_power(i: usize, x: u8) -> u8
     requires { ⌜ i < 8 ⌝ }
     ensures { λ r. ⌜ r ≡ shifts 8 feedback i x ⌝ }
 {
-    check_syndrome((x as u64) << (8 * i))
+    reduced_sum((x as u64) << i)
 }

@@ -1,23 +1,27 @@
--- `rectangular::sums::forward_power` meets its contract: a byte in one track alone leaves its power in the syndrome.
+-- `rectangular::sums::forward_power` meets its contract: X^i x fits, and is reduced.
 -- Assumes nothing.
-use mathlib.Core.Path.{_∙_}
+use mathlib.Core.Path.{sym, ap, _∙_}
+use Prim.Native.Nat.{ℕ, _/_, _%_}
 use borrow.Author.Needs.{needs}
-use Rattle.rectangular.proofs.Check.{syndrome-of-one}
+use Rattle.register.specs.Shift.{shifts}
+use Rattle.register.specs.Xor.{_⊕_}
+use Rattle.rectangular.specs.Constants.{feedback}
+use Rattle.rectangular.proofs.Check.{term, term-fits}
 use Rattle.rectangular.proofs.sums.forward_power.Statement.{statement}
 use Rattle.rectangular.proofs.sums.forward_power.Tie as tie
 
-mul-check-syndrome : tie.Need-mul-check-syndrome
-mul-check-syndrome c = search needs
+shl-reduced-sum : tie.Need-shl-reduced-sum
+shl-reduced-sum c = search needs
 
-shl-check-syndrome : tie.Need-shl-check-syndrome
-shl-check-syndrome c = search needs
-
-check-syndrome-requires : tie.Need-check-syndrome-requires
-check-syndrome-requires c κs = search needs
+reduced-sum-requires : tie.Need-reduced-sum-requires
+reduced-sum-requires c κs = search needs
 
 returns : tie.Need-returns
-returns c = c .check-syndrome .ensures ∙ syndrome-of-one (c .before .args .i) (c .before .args .x) (search needs) (search needs)
+returns c =
+    let args = c .before .args in
+    c .reduced-sum .ensures
+    ∙ ap (λ (u : ℕ). (u % 256) ⊕ shifts 8 feedback 8 (u / 256 % 128)) (term-fits (args .i) (args .x) (search needs) (search needs))
+    ∙ sym (term (args .i) (args .x) (search needs) (search needs))
 
 pub forward-power-spec : {M : Type 1} → statement M
-forward-power-spec =
-    tie.close (tie.spec mul-check-syndrome shl-check-syndrome check-syndrome-requires returns)
+forward-power-spec = tie.close (tie.spec shl-reduced-sum reduced-sum-requires returns)
