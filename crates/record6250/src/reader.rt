@@ -185,8 +185,8 @@ fn read(words: &[u16], maps: &[u16], backward: bool, table: &[u16], output: &mut
     if stray < groups {
         return refused(Reason::StrayBits, stray);
     }
-    if groups <= 16 {
-        let mut short = [0u8; 112];
+    if groups <= 64 {
+        let mut short = [0u8; 448];
         return read_within(words, maps, backward, table, &mut short, output);
     }
     let mut body = [0u8; 4102];
