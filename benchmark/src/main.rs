@@ -1,7 +1,8 @@
 //! How fast the proved library is, beside implementations in Rust that were written for speed and beside memcpy,
 //! all in one run and interleaved: the best of many rounds over the same records, in several passes over all cases,
-//! so that a moment in which the machine is busy elsewhere spoils none. Output buffers are not cleared between calls. Prints the tables of docs/BENCHMARK.md and, given a path, draws the picture there. Given the word
-//! `compare` it measures nothing, and only sees that both implementations agree.
+//! so that a moment in which the machine is busy elsewhere spoils none. Output buffers are not cleared between
+//! calls. Prints the tables of docs/BENCHMARK.md and, given a path, draws the picture there. Given the word `compare`
+//! it measures nothing, and only sees that both implementations agree.
 
 #[path = "../../tests/host/src/abi.rs"]
 mod abi;

@@ -42,8 +42,8 @@ impl Code800 {
     }
 }
 
-// X times a polynomial of nine bits, modulo G (document 003, figure 1): G is added where X^9 arises. By a
-// choice, since a multiplication would stand in the chain of register steps, each of which waits for the last.
+// X times a polynomial of nine bits, modulo G (document 003, figure 1): G is added where X^9 arises. An `if` does
+// it: a multiplication would lengthen the chain of register steps, each of which waits for the one before.
 pub fn shift(a: u16) -> u16
     requires { ⌜ a < 512 ⌝ }
     ensures { λ r. ⌜ r ≡ timesX a ⌝ }

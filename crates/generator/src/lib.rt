@@ -1,6 +1,7 @@
 // The generator matrix of the 6250 code, as tables: what each information byte adds to the eight tracks. A
 // `match` on a number is compiled to a table in read-only memory, where a constant array would be built at
-// each call; each of its arms is proved by itself.
+// each call; each of its arms is proved by itself. The last arm must be `_`: there the matrix itself, by its
+// columns, is multiplied.
 //
 // A byte comes flipped: with its highest bit changed. A table that the compiler makes of a byte begins at 128,
 // as it takes the byte for a signed number, and it changes that bit to look up; so the two changes cancel, and

@@ -5,6 +5,7 @@ ghost use Rattle.indexed.specs.Rule.{valueAt};
 ghost use Rattle.register.specs.Xor.{_⊕_};
 ghost use Rattle.group_code.specs.Code.{wordOf};
 
+// The codes of 0 to 15.
 const CODES: [u16; 16] = [
     25,
     27,
@@ -24,7 +25,7 @@ const CODES: [u16; 16] = [
     15,
 ];
 
-// A byte's word, from its two codes.
+// A byte's word, from its two codes: for the last arm of the table, which must be `_`.
 fn coded(byte: u8) -> u16
     ensures { λ r. ⌜ r ≡ valueAt wordOf byte ⌝ }
 {

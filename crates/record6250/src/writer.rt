@@ -28,7 +28,8 @@ fn last_group(bytes: &[u8]) -> [u8; 7]
     last
 }
 
-// Writes the groups that are full of data. The compiler makes one copy of the loop for both calls of it.
+// Writes the groups that are full of data. Both calls of it share one compiled loop, so that
+// each table is compiled in at one place (decision D11).
 fn write_groups(bytes: &[u8], words: &mut [u16])
     requires { ⌜ 9 * (length (now bytes) / 7) ≤ length (now words) ⌝ }
     ensures { λ _. ⌜ now (words .exit) ≡ groupsStored (length (now (bytes .entry)) / 7) (now (bytes .entry)) (now (words .entry)) ⌝ }

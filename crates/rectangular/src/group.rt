@@ -57,7 +57,7 @@ pub(crate) fn parity(tracks: u64) -> u8
 }
 
 // The tracks that are written from the seven information bytes in front, the first of which is B7: the sum of
-// what each adds.
+// what each adds. The tables take a byte with its highest bit changed (crate generator).
 fn tracks(bytes: &[u8]) -> u64
     requires { ⌜ 7 ≤ length (now bytes) ⌝ }
     ensures { λ r. ⌜ bytesOf r ≡ tabulate 8 (code.column 8 (code.character 8 feedback (take 7 (now (bytes .entry))))) ⌝ }

@@ -1,5 +1,5 @@
-// Sums of powers of T: the check syndrome (document 000, equation (14)), and with it the check byte and the
-// products T^i x. Bytes are packed in one number, byte j in bits 8j to 8j + 7.
+// Sums of powers of T: the check syndrome (document 000, equation (14)), and the products T^i x. Tracks are
+// packed in one number, track j in bits 8j to 8j + 7.
 use remainder::reduced;
 ghost use mathlib.Core.Path.{_≡_};
 ghost use Prim.Native.Nat.{_*_, _/_, _%_, _^_, _<_};

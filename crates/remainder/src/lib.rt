@@ -61,7 +61,7 @@ fn high_reduced(high: u8) -> u64
 }
 
 // What seven bits leave that stand above a byte: T^8 times the number that they are. By parts, since a look-up of 16
-// entries is compiled into its callers, and one of 128 stays a call.
+// entries is compiled into every caller, and one of 128 only into a single one (decision D11).
 pub fn reduced(high: u8) -> u64
     requires { ⌜ high < 128 ⌝ }
     ensures { λ r. ⌜ r ≡ valueAt (product eighthPower) high ⌝ }

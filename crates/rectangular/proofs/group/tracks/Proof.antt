@@ -1,4 +1,4 @@
--- `rectangular::group::tracks` meets its contract: the seven look-ups add up to the group.
+-- `rectangular::group::tracks` meets its contract: the seven look-ups add up to the eight tracks.
 -- Assumes nothing.
 use native.Mathlib.Omega.{arith}
 use borrow.Author.Needs.{needs}
