@@ -1,4 +1,4 @@
--- T has the exponent 17, and T of 128 is 57.
+-- T has the exponent 17.
 -- Assumes nothing.
 use Prim.Native.Nat.{pred}
 use Rattle.register.specs.Shift.{shift, shifts}
