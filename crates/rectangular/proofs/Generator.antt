@@ -1,21 +1,25 @@
--- The tables of the generator matrix are the code's: a test of every bit that an information byte adds to the tracks, and the sum.
+-- The tables of the generator matrix are the code's: a test of what every bit of an information byte adds to the tracks, and the sum.
 -- Assumes nothing.
 use mathlib.Core.Path.{_≡_, sym, ap, ap₂, _∙_}
 use mathlib.Core.List.{List, [], _∷_}
-use Prim.Native.Nat.{ℕ, zero, suc, _+_, _-_, _*_, _/_, _%_, _<_}
+use Prim.Native.Nat.{ℕ, zero, suc, _+_, _-_, _*_, _/_, _%_, _^_, _<_}
 use native.Mathlib.Omega.{arith}
 use lib.ListN.{getD, take}
 use lib.Seq.{getD-take}
-use Rattle.indexed.specs.List.{tabulate}
+use Rattle.indexed.specs.List.{tabulate, tabulateFrom}
 use Rattle.indexed.specs.Rule.{valueAt}
 use Rattle.indexed.proofs.Tabulate.{tabulate-same}
-use Rattle.indexed.proofs.Test.{equal₃}
-use Rattle.register.specs.Bit.{bit}
+use Rattle.indexed.proofs.Test.{equal₂}
+use Rattle.register.specs.Bit.{bit, ofBits}
 use Rattle.register.specs.Matrix.{product}
 use Rattle.register.specs.Shift.{shift, shifts}
 use Rattle.register.specs.Sum.{xorSum}
 use Rattle.register.specs.Xor.{_⊕_}
-use Rattle.register.proofs.Expand.{bit-sum, bits-ext}
+use Rattle.register.proofs.Bit.{bit-lt}
+use Rattle.register.proofs.Expand.{bit-xor, bit-sum, bits-ext, bit-tabulated}
+use Rattle.register.proofs.Linear.{Linear, linear-agree}
+use Rattle.register.proofs.Matrix.{product-xor}
+use Rattle.register.proofs.Shift.{shifts-xor}
 use Rattle.register.proofs.Sum.{sum-ext, sum-one}
 use Rattle.register.proofs.Flipped.{flipped-back}
 use Rattle.generator.specs.Columns.{part1, part2, part3, part4, part5, part6, part7}
@@ -25,7 +29,7 @@ use Rattle.rectangular.specs.Group.{information, check, character, colum
 use Rattle.rectangular.specs.Packed.{bytesOf}
 use Rattle.rectangular.proofs.Bytes.{bit-byte, byte-lt}
 use Rattle.rectangular.proofs.Symmetry.{column-lt, bit-column}
-use Rattle.rectangular.proofs.Syndrome.{error-here, error-elsewhere}
+use Rattle.rectangular.proofs.Syndrome.{error-here, error-elsewhere, error-lt, error-xor}
 
 -- the part of the matrix for B_(i+1)
 part : ℕ → List ℕ
@@ -36,10 +40,28 @@ added : ℕ → ℕ → ℕ → ℕ → ℕ
 added zero i j b = bit j (shifts 8 feedback (suc i) b)
 added (suc r) i j b = errorAt r (bit j b) i
 
--- a test of every part, byte and bit
+added-lt : (r i j b : ℕ) → added r i j b < 2
+unfolding added
+added-lt zero i j b = bit-lt j (shifts 8 feedback (suc i) b)
+added-lt (suc r) i j b = error-lt 1 r (bit j b) i (bit-lt j b)
+
+added-xor : (r i j : ℕ) → Linear 8 (added r i j)
+unfolding added
+added-xor zero i j a b ha hb = ap (bit j) (shifts-xor 8 feedback (suc i) a b (omega arith) ha hb) ∙ bit-xor j _ _
+added-xor (suc r) i j a b ha hb = ap (λ (e : ℕ). errorAt r e i) (bit-xor j a b) ∙ error-xor r (bit j a) (bit j b) i
+
+-- a test of every part and place
+place-adds : (i k : ℕ) → i < 7 → k < 8 → product (part i) (2 ^ k) ≡ ofBits (tabulate 64 (λ n. added (n % 8) i (n / 8) (2 ^ k)))
+unfolding part added bit shift shifts errorAt ofBits tabulate tabulateFrom
+place-adds = equal₂ 7 8 (λ i k. product (part i) (2 ^ k)) (λ i k. ofBits (tabulate 64 (λ n. added (n % 8) i (n / 8) (2 ^ k)))) tt
+
+-- so it is of every byte
 bit-added : (i b n : ℕ) → i < 7 → b < 256 → n < 64 → bit n (product (part i) b) ≡ added (n % 8) i (n / 8) b
-unfolding part added bit shift shifts errorAt
-bit-added = equal₃ 7 256 64 (λ i b n. bit n (product (part i) b)) (λ i b n. added (n % 8) i (n / 8) b) tt
+bit-added i b n hi hb hn =
+    linear-agree 8 (λ a. bit n (product (part i) a)) (added (n % 8) i (n / 8))
+    (λ a c _ _. ap (bit n) (product-xor (part i) a c) ∙ bit-xor n _ _) (added-xor (n % 8) i (n / 8))
+    (λ k h. ap (bit n) (place-adds i k hi h)
+    ∙ bit-tabulated 64 (λ n. added (n % 8) i (n / 8) (2 ^ k)) (λ m. added-lt (m % 8) i (m / 8) (2 ^ k)) n hn) b hb
 
 module _ (info : List ℕ) (bytes : (k : ℕ) → k < 7 → getD info k 0 < 256) where
   -- the sum of what the seven add

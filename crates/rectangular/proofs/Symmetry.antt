@@ -3,41 +3,27 @@
 -- Assumes nothing.
 use mathlib.Core.Path.{_≡_, sym, ap, subst, _∙_}
 use Prim.Native.Nat.{ℕ, _+_, _*_, _^_, _<_}
-use native.Mathlib.Nat.{add-comm, zero-lt-suc}
-use native.Mathlib.Decide.{decLt}
-use native.Mathlib.Omega.{arith}
-use lib.ListN.{getD, List·getD-eq-default}
+use native.Mathlib.Nat.{add-comm}
 use Rattle.indexed.specs.List.{tabulate}
-use Rattle.indexed.proofs.Tabulate.{length-tabulate, getD-tabulate, tabulate-same}
+use Rattle.indexed.proofs.Tabulate.{length-tabulate, tabulate-same}
 use Rattle.register.specs.Bit.{bit, bitsOf, ofBits}
 use Rattle.register.specs.Shift.{shifts}
 use Rattle.register.specs.Sum.{xorSum}
-use Rattle.register.proofs.Bit.{Digits, bit-lt, ofBits-lt, ofBits-bitsOf}
-use Rattle.register.proofs.Expand.{bit-ofBits, shifts-expanded}
+use Rattle.register.proofs.Bit.{bit-lt, ofBits-lt, ofBits-bitsOf}
+use Rattle.register.proofs.Expand.{digits-tabulate, bit-tabulated, shifts-expanded}
 use Rattle.register.proofs.Sum.{sum-ext, sum-swap}
 use Rattle.rectangular.specs.Group.{column}
 
 module _ (w : ℕ) (b : ℕ → ℕ) where
-  column-digits : (j : ℕ) → Digits (tabulate w (λ i. bit j (b i)))
-  column-digits j k = by (decLt k w)
-    where
-      by : Dec (k < w) → getD (tabulate w (λ i. bit j (b i))) k 0 < 2
-      by (yes h) = rw (getD-tabulate w (λ i. bit j (b i)) k 0 h) (bit-lt j (b k))
-      by (no h) =
-          rw (List·getD-eq-default (tabulate w (λ i. bit j (b i))) 0 {n = k} (omega (arith, length-tabulate w (λ i. bit j (b i)))))
-          (zero-lt-suc 1)
-
   pub column-lt : (j : ℕ) → column w b j < 2 ^ w
   unfolding column
   column-lt j =
       subst (λ (n : ℕ). column w b j < 2 ^ n) (length-tabulate w (λ i. bit j (b i)))
-      (ofBits-lt (tabulate w (λ i. bit j (b i))) (column-digits j))
+      (ofBits-lt (tabulate w (λ i. bit j (b i))) (digits-tabulate w (λ i. bit j (b i)) (λ i. bit-lt j (b i))))
 
   pub bit-column : (i j : ℕ) → i < w → bit i (column w b j) ≡ bit j (b i)
   unfolding column
-  bit-column i j h =
-      bit-ofBits i (tabulate w (λ i. bit j (b i))) (omega (arith, length-tabulate w (λ i. bit j (b i)))) (column-digits j)
-      ∙ getD-tabulate w (λ i. bit j (b i)) i 0 h
+  bit-column i j h = bit-tabulated w (λ i. bit j (b i)) (λ i. bit-lt j (b i)) i h
 
 pub column-twice : (w : ℕ) (b : ℕ → ℕ) (i : ℕ) → i < w → b i < 2 ^ w → column w (column w b) i ≡ b i
 unfolding column bitsOf

@@ -41,6 +41,14 @@ error-lt w k e j h = by (eqb j k)
     by true = h
     by false = pow-pos w
 
+pub error-xor : (k a b j : ℕ) → errorAt k (a ⊕ b) j ≡ errorAt k a j ⊕ errorAt k b j
+unfolding errorAt
+error-xor k a b j = by (eqb j k)
+  where
+    by : (c : Bool) → cond c (a ⊕ b) 0 ≡ cond c a 0 ⊕ cond c b 0
+    by true = refl
+    by false = refl
+
 -- it changes no other track
 pub untouched : (a k e j : ℕ) → (j ≡ k → ⊥) → a ⊕ errorAt k e j ≡ a
 untouched a k e j ne = ap (λ (y : ℕ). a ⊕ y) (error-elsewhere k e j ne) ∙ xor-zero-r a

@@ -4,13 +4,15 @@
 use mathlib.Core.Path.{_≡_, refl, sym, ap, _∙_}
 use mathlib.Core.List.{List}
 use Prim.Native.Nat.{ℕ, zero, suc, _+_, _*_, _/_, _%_, _^_, _<_}
-use native.Mathlib.Nat.{mod-lt, div-eq-of-lt, mod-one, mod-eq-of-lt, zero-mul, one-mul}
+use native.Mathlib.Decide.{decLt}
+use native.Mathlib.Nat.{mod-lt, div-eq-of-lt, mod-one, mod-eq-of-lt, zero-lt-suc, zero-mul, one-mul}
 use native.Mathlib.Numerals.{one-add}
 use native.Mathlib.Omega.{arith}
 use lib.Pow.{pow-pos, pow-lt, mod-pow-add}
 use lib.Bits.{xor-comm, xor-shifted, xor-shr, xor-mod}
-use lib.ListN.{length, getD}
-use Rattle.indexed.proofs.Tabulate.{tabulate-same}
+use lib.ListN.{length, getD, List·getD-eq-default}
+use Rattle.indexed.specs.List.{tabulate}
+use Rattle.indexed.proofs.Tabulate.{length-tabulate, getD-tabulate, tabulate-same}
 use Rattle.register.specs.Xor.{_⊕_}
 use Rattle.register.specs.Bit.{bit, bitsOf, ofBits}
 use Rattle.register.specs.Shift.{shifts}
@@ -38,6 +40,18 @@ bit-sum k (suc n) g = bit-xor k (xorSum n g) (g n) ∙ ap (λ (x : ℕ). x ⊕ b
 pub bit-ofBits : (k : ℕ) (l : List ℕ) → k < length l → Digits l → bit k (ofBits l) ≡ getD l k 0
 bit-ofBits k l h d =
     sym (getD-bitsOf (length l) (ofBits l) k h) ∙ ap (λ (m : List ℕ). getD m k 0) (bitsOf-ofBits (length l) l refl d)
+
+-- digits of a rule
+module _ (w : ℕ) (d : ℕ → ℕ) (digit : (k : ℕ) → d k < 2) where
+  pub digits-tabulate : Digits (tabulate w d)
+  digits-tabulate k = by (decLt k w)
+    where
+      by : Dec (k < w) → getD (tabulate w d) k 0 < 2
+      by (yes h) = rw (getD-tabulate w d k 0 h) (digit k)
+      by (no h) = rw (List·getD-eq-default (tabulate w d) 0 {n = k} (omega (arith, length-tabulate w d))) (zero-lt-suc 1)
+
+  pub bit-tabulated : (k : ℕ) → k < w → bit k (ofBits (tabulate w d)) ≡ d k
+  bit-tabulated k h = bit-ofBits k (tabulate w d) (omega (arith, length-tabulate w d)) digits-tabulate ∙ getD-tabulate w d k 0 h
 
 pub bits-ext : (w a b : ℕ) → a < 2 ^ w → b < 2 ^ w → ((k : ℕ) → k < w → bit k a ≡ bit k b) → a ≡ b
 unfolding bitsOf

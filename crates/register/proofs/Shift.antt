@@ -54,7 +54,7 @@ double-xor a b =
     e : (a * 2 + 0) ⊕ (b * 2 + 0) ≡ (a ⊕ b) * 2
     e = xor-block 1 a b 0 0 (omega arith) (omega arith) ∙ omega arith
 
-times-digits-xor : (f d e : ℕ) → d < 2 → e < 2 → (d ⊕ e) * f ≡ d * f ⊕ e * f
+pub times-digits-xor : (f d e : ℕ) → d < 2 → e < 2 → (d ⊕ e) * f ≡ d * f ⊕ e * f
 times-digits-xor f d e hd he =
     digit-ind (λ (d : ℕ). (d ⊕ e) * f ≡ d * f ⊕ e * f) (ap (λ (x : ℕ). x ⊕ e * f) (sym (zero-mul f)))
     (digit-ind (λ (e : ℕ). (1 ⊕ e) * f ≡ 1 * f ⊕ e * f)
