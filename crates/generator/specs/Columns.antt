@@ -1,7 +1,7 @@
 -- The generator matrix of the 6250 code, in seven parts: column k of part i is what bit k of the information byte B_i adds to the
 -- eight tracks, track j in bits 8j to 8j + 7. That bit stands in track k at place i, and B_i adds T^i B_i to the check byte, whose
 -- bit j stands in track j at place 0 (document 000, equation (23) and "Orthogonal symmetry"). That these are the columns is a law
--- of the crate rectangular.
+-- of the crate group6250.
 -- Assumes nothing.
 use mathlib.Core.List.{List, [], _∷_}
 use Prim.Native.Nat.{ℕ}

@@ -17,7 +17,7 @@ use Rattle.indexed.proofs.Total.{total-same}
 use Rattle.answer.specs.Answer.{Answer, delivered, refused, refusedFor}
 use Rattle.answer.specs.declared.Reason.the-variants.{Length, Space, StrayBits}
 use Rattle.rectangular.specs.Correction.{Judgement}
-use Rattle.rectangular.specs.Judged.{changedMap}
+use Rattle.group6250.specs.Judged.{changedMap}
 use Rattle.group_code.specs.Word.{forwardWord}
 use Rattle.record6250.specs.Group.{stray, judgedGroup, isCorrected, reasonOf, rightBytes, rightWords}
 use Rattle.record6250.specs.Picture.{groupRead, mapRead, pictureWords, pictureMaps}

@@ -9,7 +9,7 @@ use lib.ListN.{getD}
 use Rattle.indexed.specs.Differ.{differences}
 use Rattle.indexed.proofs.Total.{differences-total}
 use Rattle.register.proofs.Ones.{ones-of-bits, tabulated-lt}
-use Rattle.rectangular.specs.Judged.{changedMap}
+use Rattle.group6250.specs.Judged.{changedMap}
 use Rattle.indexed.proofs.Test.{flag-lt}
 
 module _ (read right : List ℕ) where

@@ -22,9 +22,9 @@ use Rattle.group_code.specs.Word.{valueOf, illegality, forwardWord}
 use Rattle.group_code.proofs.Words.{illegality-lt, value-of-word, word-legal, word-of-value}
 use Rattle.rectangular.specs.Constants.{feedback, exponent}
 use Rattle.rectangular.specs.Correction.{pointedTracks, corrected, judged}
-use Rattle.rectangular.specs.Judged.{changedMap}
-use Rattle.rectangular.specs.Packed.{valuesOf}
-use Rattle.rectangular.specs.declared.group.Group.{Group}
+use Rattle.group6250.specs.Judged.{changedMap}
+use Rattle.group6250.specs.Packed.{valuesOf}
+use Rattle.group6250.specs.declared.group.Group.{Group}
 use Rattle.rectangular.proofs.Same.{judged-same}
 use Rattle.record6250.specs.Fits.{Passes}
 use Rattle.record6250.specs.Group.{illegalMap, pointed, judgedGroup, rightValues, rightWords}

@@ -12,7 +12,7 @@ use lib.Pow.{pow-pos, pow-add, high}
 use Rattle.indexed.specs.List.{tabulate}
 use Rattle.indexed.proofs.Tabulate.{length-tabulate, tabulate-last}
 use Rattle.register.specs.Bit.{ofBits}
-use Rattle.rectangular.specs.Packed.{byteAt}
+use Rattle.group6250.specs.Packed.{byteAt}
 
 -- numbers of s bits in one, number i in bits s i to s i + s - 1
 unfoldable pub packed : ℕ → ℕ → (ℕ → ℕ) → ℕ

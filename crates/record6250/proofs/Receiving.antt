@@ -19,7 +19,7 @@ use Rattle.register.specs.Bit.{ofBits}
 use Rattle.register.proofs.Ones.{tabulated-lt}
 use Rattle.group_code.specs.Word.{valueOf, illegality, forwardWord, readOf, readings}
 use Rattle.group_code.proofs.Words.{value-lt, illegality-lt, getD-readings, read-value, read-mark}
-use Rattle.rectangular.specs.Packed.{byteAt, valuesOf, placedAt}
+use Rattle.group6250.specs.Packed.{byteAt, valuesOf, placedAt}
 use Rattle.record6250.specs.Group.{illegalMap}
 use Rattle.record6250.specs.Received.{receivedValues}
 use Rattle.record6250.specs.declared.received.Received.{Received}

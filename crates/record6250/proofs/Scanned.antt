@@ -17,12 +17,12 @@ use Rattle.indexed.proofs.Tabulate.{tabulate-same}
 use Rattle.answer.specs.Answer.{delivered, refusedFor}
 use Rattle.rectangular.specs.Correction.{Judgement, corrected}
 use Rattle.rectangular.specs.Group.{informationOf}
-use Rattle.rectangular.specs.Judged.{correctedValues, toldJudged, toldChanged}
-use Rattle.rectangular.specs.Packed.{byteAt}
-use Rattle.rectangular.specs.declared.judge.Correction.{Correction}
-use Rattle.rectangular.specs.declared.judge.Judged.{Judged}
-use Rattle.rectangular.specs.declared.judge.Judged.the-variants.{Corrected}
-use Rattle.rectangular.proofs.Packed.{value-low}
+use Rattle.group6250.specs.Judged.{correctedValues, toldJudged, toldChanged}
+use Rattle.group6250.specs.Packed.{byteAt}
+use Rattle.group6250.specs.declared.judge.Correction.{Correction}
+use Rattle.group6250.specs.declared.judge.Judged.{Judged}
+use Rattle.group6250.specs.declared.judge.Judged.the-variants.{Corrected}
+use Rattle.group6250.proofs.Packed.{value-low}
 use Rattle.rectangular.proofs.Symmetry.{column-ext}
 use Rattle.record6250.specs.Group.{isCorrected, reasonOf, rightValues, rightBytes}
 use Rattle.record6250.specs.Read.{judgement, changedTracks, firstUnfit, changes}

@@ -41,10 +41,10 @@ use denote.Struct.Laws as LL
 use denote.Triple.Statement.{Contract, Triple}
 use Rattle.indexed.proofs.Walk.{Callee, called-as, typed}
 use Rattle.group_code.specs.Word.{readings}
-use Rattle.rectangular.specs.Judged.{toldJudged, toldChanged}
-use Rattle.rectangular.specs.declared.judge.Judged.{Judged}
-use Rattle.rectangular.proofs.judge.Judged.{the-type as judged-type, the-row as judged-row}
-use Rattle.rectangular.proofs.judge.Judged.Laws.{the-laws as judged-laws, mir as judged-mir}
+use Rattle.group6250.specs.Judged.{toldJudged, toldChanged}
+use Rattle.group6250.specs.declared.judge.Judged.{Judged}
+use Rattle.group6250.proofs.judge.Judged.{the-type as judged-type, the-row as judged-row}
+use Rattle.group6250.proofs.judge.Judged.Laws.{the-laws as judged-laws, mir as judged-mir}
 use Rattle.record6250.specs.Fits.{Passes}
 use Rattle.record6250.specs.Group.{isCorrected}
 use Rattle.record6250.specs.Read.{judgement, changedTracks}

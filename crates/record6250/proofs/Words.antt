@@ -9,10 +9,10 @@ use Rattle.indexed.proofs.Map.{getD-map}
 use Rattle.group_code.specs.Code.{wordOf}
 use Rattle.rectangular.specs.Constants.{feedback}
 use Rattle.rectangular.specs.Group.{group}
-use Rattle.rectangular.specs.Packed.{valuesOf}
-use Rattle.rectangular.specs.declared.group.Group.{Group}
+use Rattle.group6250.specs.Packed.{valuesOf}
+use Rattle.group6250.specs.declared.group.Group.{Group}
 use Rattle.rectangular.proofs.Equations.{length-group}
-use Rattle.rectangular.proofs.Packed.{length-values}
+use Rattle.group6250.proofs.Packed.{length-values}
 use Rattle.record6250.specs.Record.{groupWords}
 
 pub length-groupWords : (info : List ℕ) → length (groupWords info) ≡ 9

@@ -11,7 +11,7 @@ use Rattle.indexed.specs.Test.{allBelow}
 use Rattle.answer.specs.Answer.{Answer, delivered, refusedFor}
 use Rattle.answer.specs.declared.Reason.the-variants.{Length, Space, StrayBits, Padding}
 use Rattle.rectangular.specs.Correction.{Judgement}
-use Rattle.rectangular.specs.Judged.{changedMap}
+use Rattle.group6250.specs.Judged.{changedMap}
 use Rattle.record6250.specs.Group.{stray, judgedGroup, isCorrected, reasonOf, rightBytes, rightWords}
 use Rattle.record6250.specs.Picture.{groupRead, mapRead}
 

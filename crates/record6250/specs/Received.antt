@@ -2,7 +2,7 @@
 -- Assumes nothing.
 use Prim.Native.Nat.{ℕ}
 use mathlib.Core.List.{List}
-use Rattle.rectangular.specs.Packed.{valuesOf}
+use Rattle.group6250.specs.Packed.{valuesOf}
 use Rattle.record6250.specs.declared.received.Received.{Received}
 
 -- the nine values

@@ -1,11 +1,11 @@
 // The corrected bytes of a record: stored group by group, held to the padding rule, and delivered.
-use rectangular::transpose::transposed;
+use group6250::transpose::transposed;
 ghost use mathlib.Core.Path.{_≡_};
 ghost use mathlib.Core.List.{_++_};
 ghost use Prim.Native.Nat.{_≤_};
 ghost use lib.ListN.{length, take, drop};
 ghost use Rattle.rectangular.specs.Group.{informationOf};
-ghost use Rattle.rectangular.specs.Packed.{byteAt};
+ghost use Rattle.group6250.specs.Packed.{byteAt};
 ghost use Rattle.record6250.specs.Read.{paddingSuits};
 
 // Stores the seven information bytes of a group, B7 to B1, at the front: the columns of its tracks

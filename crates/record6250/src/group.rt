@@ -1,12 +1,12 @@
 // How a group lies among the words of a record: nine words, tracks 0 to 8.
 use group_code::word;
-use rectangular::group::Group;
+use group6250::group::Group;
 ghost use mathlib.Core.Path.{_≡_};
 ghost use mathlib.Core.List.{_++_, map};
 ghost use Prim.Native.Nat.{_≤_};
 ghost use lib.ListN.{length, drop};
 ghost use Rattle.group_code.specs.Code.{wordOf};
-ghost use Rattle.rectangular.specs.Packed.{valuesOf};
+ghost use Rattle.group6250.specs.Packed.{valuesOf};
 
 // Stores a group's nine words at the front.
 pub(crate) fn store(words: &mut [u16], group: Group)

@@ -1,5 +1,5 @@
 // A group as it is received: the values of its nine words, and which of them are illegal.
-use rectangular::group::placed;
+use group6250::group::placed;
 ghost use mathlib.Core.Path.{_≡_};
 ghost use Prim.Native.Nat.{ℕ, _+_, _<_, _≤_};
 ghost use lib.ListN.{length, getD};

@@ -1,13 +1,13 @@
 // A reading walks the lent words group by group, in tape order (document 01, "The 6250 record"). The walker
 // is thin: it is taken apart, and the functions on the slice and the index do the work.
 use crate::reader::judge_group;
-use rectangular::judge::Judged;
+use group6250::judge::Judged;
 ghost use mathlib.Core.Bool.{true};
 ghost use mathlib.Core.Path.{_≡_};
 ghost use Prim.Native.Nat.{_+_, _<_};
 ghost use lib.ListN.{length};
 ghost use Rattle.group_code.specs.Word.{readings};
-ghost use Rattle.rectangular.specs.Judged.{toldJudged, toldChanged};
+ghost use Rattle.group6250.specs.Judged.{toldJudged, toldChanged};
 ghost use Rattle.record6250.specs.Fits.{Passes};
 ghost use Rattle.record6250.specs.Group.{isCorrected};
 ghost use Rattle.record6250.specs.Read.{judgement, changedTracks, mostGroups};

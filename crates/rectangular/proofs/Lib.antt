@@ -8,11 +8,3 @@ pub mod Syndrome
 pub mod Pointed
 pub mod Correction
 pub mod Same
-pub mod Bytes
-pub mod Exchange
-pub mod Check
-pub mod Matrix
-pub mod Packed
-pub mod Generator
-pub mod Corrected
-pub mod Judging

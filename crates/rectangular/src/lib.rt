@@ -1,10 +1,5 @@
-// The rectangular code of document 000: its constants, its register, its groups, and products with bytes.
-pub mod group;
-pub mod judge;
-mod product;
-mod sums;
-pub mod transpose;
-
+// The rectangular code of document 000: its constants and its register. specs/ has its groups and how one that
+// was read is judged, over the width, and proofs/ the laws; the crate group6250 computes with them.
 ghost use mathlib.Core.Path.{_≡_};
 ghost use Rattle.rectangular.specs.Constants.{timesT, timesPower};
 

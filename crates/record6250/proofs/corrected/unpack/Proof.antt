@@ -10,8 +10,8 @@ use Rattle.indexed.specs.List.{tabulate}
 use Rattle.indexed.proofs.Front.{front, front-more, front-all}
 use Rattle.indexed.proofs.Tabulate.{length-tabulate, getD-tabulate}
 use Rattle.rectangular.specs.Group.{column, informationOf}
-use Rattle.rectangular.specs.Packed.{byteAt, bytesOf}
-use Rattle.rectangular.proofs.Bytes.{byte-of}
+use Rattle.group6250.specs.Packed.{byteAt, bytesOf}
+use Rattle.group6250.proofs.Bytes.{byte-of}
 use borrow.Author.Needs.{needs}
 use Rattle.record6250.proofs.corrected.unpack.Statement.{statement}
 use Rattle.record6250.proofs.corrected.unpack.Tie as tie

@@ -9,7 +9,7 @@ use denote.Ref.{now}
 use lib.ListN.{length, set, length-set}
 use Rattle.indexed.proofs.Front.{front, front-more, front-all}
 use Rattle.group_code.specs.Code.{wordOf}
-use Rattle.rectangular.specs.Packed.{valuesOf}
+use Rattle.group6250.specs.Packed.{valuesOf}
 use Rattle.record6250.proofs.Words.{length-words, word-at}
 use Rattle.record6250.proofs.group.store.Statement.{statement}
 use Rattle.record6250.proofs.group.store.Tie as tie

@@ -15,7 +15,7 @@ use Rattle.indexed.proofs.Blocks.{stored}
 use Rattle.indexed.proofs.Part.{part-to-end}
 use Rattle.answer.specs.Answer.{delivered}
 use Rattle.rectangular.specs.Correction.{manyPointed, noGroup}
-use Rattle.rectangular.specs.Judged.{toldJudged}
+use Rattle.group6250.specs.Judged.{toldJudged}
 use Rattle.record6250.specs.Group.{isCorrected, reasonOf, rightBytes}
 use Rattle.record6250.specs.Read.{judgement, changedTracks, readBody, changes}
 use Rattle.record6250.proofs.FittingGroup.{length-rightBytes}

@@ -10,8 +10,8 @@ use lib.ListN.{length, getD}
 use Rattle.register.proofs.Ones.{tabulated-lt}
 use Rattle.group_code.proofs.Words.{illegality-lt}
 use Rattle.rectangular.specs.Correction.{corrected}
-use Rattle.rectangular.specs.Judged.{correctedValues, toldJudged, toldChanged, changedBy}
-use Rattle.rectangular.specs.declared.group.Group.{Group}
+use Rattle.group6250.specs.Judged.{correctedValues, toldJudged, toldChanged, changedBy}
+use Rattle.group6250.specs.declared.group.Group.{Group}
 use Rattle.record6250.specs.Group.{illegalMap, isCorrected}
 use Rattle.record6250.specs.Received.{receivedValues}
 use Rattle.record6250.proofs.GroupJudged.{lent-below, lent-group, lent-map, value-at, judgement-told, changed-told}
