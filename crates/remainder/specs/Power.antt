@@ -1,6 +1,6 @@
 -- Powers of T as matrices, by their columns: T is the multiplication by X modulo g = 1 + X^3 + X^4 + X^5 + X^8 of the 6250
--- code (document 000, equation (1)), and column k is the power times X^k. That they are is shown for the bits in use: seven of T^8
--- and of T^-7 in the crate group6250, three of T^12 by the proof of `reduced`.
+-- code (document 000, equation (1)), and column k is the power times X^k. That they are is shown in
+-- proofs/Power.antt.
 -- Assumes nothing.
 use mathlib.Core.List.{List, [], _∷_}
 use Prim.Native.Nat.{ℕ}
