@@ -7,16 +7,16 @@ use crate::print;
 use crate::reading;
 use answer::Refusal;
 use libc::STDIN_FILENO;
-use record6250::Figures;
-use record6250::Read;
-use record6250::Written;
+use reader6250::Figures;
+use reader6250::Read;
+use writer6250::Written;
 ghost use mathlib.Core.Path.{_≡_};
 ghost use Prim.Native.Nat.{_*_, _≤_, min};
 ghost use lib.ListN.{length, take};
 ghost use Rattle.answer.specs.Answer.{outputAfter};
 ghost use Rattle.record6250.specs.Read.{readAnswer, readData};
 ghost use Rattle.record6250.specs.Record.{writtenRecord};
-ghost use Rattle.record6250.specs.Told.{toldRead};
+ghost use Rattle.reader6250.specs.Told.{toldRead};
 ghost use Rattle.record6250.specs.Written.{writeAnswer};
 
 // Writes the record of the data on standard input.
@@ -25,7 +25,7 @@ pub(crate) fn write() {
     let mut bytes = [0u8; 4102];
     let count = io::read_full(STDIN_FILENO, &mut bytes);
     let mut words = [0u16; 5274];
-    match record6250::write(&bytes[..count], &mut words) {
+    match writer6250::write(&bytes[..count], &mut words) {
         Written::Delivered(groups) => print::words(&words, words_of(groups)),
         Written::Refused(refusal) => print::refused(refusal),
     }
@@ -66,9 +66,9 @@ fn answered(words: &[u16], maps: &[u16], backward: bool, output: &mut [u8]) -> R
     ensures output { λ r. ⌜ now (output .exit) ≡ outputAfter (toldRead r) (readData backward (now (words .entry)) (now (maps .entry))) (now (output .entry)) ⌝ }
 {
     if backward {
-        return record6250::read_backward(words, maps, output);
+        return reader6250::read_backward(words, maps, output);
     }
-    record6250::read_forward(words, maps, output)
+    reader6250::read_forward(words, maps, output)
 }
 
 // The words of the record that was delivered, from its data.
@@ -76,7 +76,7 @@ fn write_again(bytes: &[u8], count: usize, words: &mut [u16])
     ensures { λ _. ⌜ (count ≤ length (now (bytes .entry)) → now (words .exit) ≡ outputAfter (writeAnswer count (length (now (words .entry)))) (writtenRecord (take count (now (bytes .entry)))) (now (words .entry))) ⌝ }
 {
     if count <= bytes.len() {
-        record6250::write(&bytes[..count], words);
+        writer6250::write(&bytes[..count], words);
     }
 }
 

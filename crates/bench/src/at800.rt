@@ -7,16 +7,16 @@ use crate::print;
 use crate::reading;
 use answer::Refusal;
 use libc::STDIN_FILENO;
-use record800::Figures;
-use record800::Read;
-use record800::Written;
+use reader800::Figures;
+use reader800::Read;
+use writer800::Written;
 ghost use mathlib.Core.Path.{_≡_};
 ghost use Prim.Native.Nat.{_+_, _/_, _≤_};
 ghost use lib.ListN.{length, take};
 ghost use Rattle.answer.specs.Answer.{outputAfter};
 ghost use Rattle.record800.specs.Read.{readAnswer, readData};
 ghost use Rattle.record800.specs.Record.{writtenRecord};
-ghost use Rattle.record800.specs.Told.{toldRead};
+ghost use Rattle.reader800.specs.Told.{toldRead};
 ghost use Rattle.record800.specs.Written.{writeAnswer};
 
 // Writes the record of the data on standard input.
@@ -25,7 +25,7 @@ pub(crate) fn write() {
     let mut bytes = [0u8; 2049];
     let count = io::read_full(STDIN_FILENO, &mut bytes);
     let mut characters = [0u16; 2050];
-    match record800::write(&bytes[..count], &mut characters) {
+    match writer800::write(&bytes[..count], &mut characters) {
         Written::Delivered(stored) => print::words(&characters, stored),
         Written::Refused(refusal) => print::refused(refusal),
     }
@@ -57,9 +57,9 @@ fn answered(characters: &[u16], backward: bool, output: &mut [u8]) -> Read
     ensures output { λ r. ⌜ now (output .exit) ≡ outputAfter (toldRead r) (readData backward (now (characters .entry))) (now (output .entry)) ⌝ }
 {
     if backward {
-        return record800::read_backward(characters, output);
+        return reader800::read_backward(characters, output);
     }
-    record800::read_forward(characters, output)
+    reader800::read_forward(characters, output)
 }
 
 // The characters of the record that was delivered, from its data.
@@ -67,7 +67,7 @@ fn write_again(bytes: &[u8], count: usize, characters: &mut [u16])
     ensures { λ _. ⌜ (count ≤ length (now (bytes .entry)) → now (characters .exit) ≡ outputAfter (writeAnswer count (length (now (characters .entry)))) (writtenRecord (take count (now (bytes .entry)))) (now (characters .entry))) ⌝ }
 {
     if count <= bytes.len() {
-        record800::write(&bytes[..count], characters);
+        writer800::write(&bytes[..count], characters);
     }
 }
 

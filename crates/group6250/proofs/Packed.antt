@@ -2,7 +2,7 @@
 -- Assumes nothing.
 use mathlib.Core.Path.{_≡_, sym, ap, ap₂, _∙_}
 use mathlib.Core.List.{List, [], _∷_, _++_}
-use Prim.Native.Nat.{ℕ, _+_, _/_, _%_, _^_, _<_}
+use Prim.Native.Nat.{ℕ, _+_, _*_, _/_, _%_, _^_, _<_}
 use native.Mathlib.Nat.{div-one}
 use native.Mathlib.Omega.{arith}
 use lib.Bits.{xor-shr, xor-mod}
@@ -10,6 +10,7 @@ use lib.ListN.{length, getD, length-append, List·getD-append}
 use lib.Seq.{getD-at}
 use lib.Pow.{shr-shr}
 use Rattle.indexed.specs.List.{tabulate}
+use Rattle.indexed.proofs.Test.{equal₂}
 use Rattle.indexed.proofs.Tabulate.{length-tabulate, getD-tabulate, tabulate-same, tabulate-last}
 use Rattle.register.specs.Shift.{shifts}
 use Rattle.register.specs.Sum.{xorSum}
@@ -19,7 +20,7 @@ use Rattle.register.proofs.Xor.{xor-assoc, xor-left-comm}
 use Rattle.rectangular.specs.Constants.{feedback}
 use Rattle.rectangular.specs.Correction.{paritySyndrome, checkSyndrome}
 use Rattle.rectangular.specs.Group.{character, column, track, group}
-use Rattle.group6250.specs.Packed.{byteAt, bytesOf, valuesOf, parityByte}
+use Rattle.group6250.specs.Packed.{byteAt, bytesOf, valuesOf, parityByte, placedAt}
 use Rattle.group6250.specs.declared.group.Group.{Group}
 use Rattle.group6250.proofs.Bytes.{byte-of}
 use Rattle.rectangular.proofs.Equations.{track-low, track-parity}
@@ -94,3 +95,10 @@ module _ (g : Group) where
   pub check-syndrome : (s : ℕ) → s ≡ checkSyndrome 8 feedback (λ j. byteAt j (g .tracks)) → s ≡ checkSyndrome 8 feedback (λ k. getD (valuesOf g) k 0)
   unfolding checkSyndrome
   check-syndrome s e = e ∙ sum-ext 8 _ _ (λ j h. ap (shifts 8 feedback j) (sym (value-low j h)))
+
+-- ---- a value in its place
+
+-- the shift loses no bit
+pub placed-fits : (t e : ℕ) → t < 8 → e < 256 → e * 2 ^ (8 * t) % 2 ^ 64 ≡ placedAt t e
+unfolding placedAt
+placed-fits = equal₂ 8 256 (λ t e. e * 2 ^ (8 * t) % 2 ^ 64) placedAt tt

@@ -7,7 +7,6 @@ use Prim.Native.Nat.{ℕ, _*_, _/_, _%_, _^_}
 use lib.Bits.{bitAnd}
 use lib.Dec.{ltb}
 use Rattle.indexed.specs.List.{tabulate}
-use Rattle.register.specs.Bit.{bit}
 use Rattle.register.specs.Sum.{xorSum}
 use Rattle.register.specs.Xor.{_⊕_}
 use Rattle.group6250.specs.declared.group.Group.{Group}
@@ -39,7 +38,3 @@ exchange distance mask x =
     x
     ⊕ bitAnd (x ⊕ x / 2 ^ distance) mask
     ⊕ bitAnd (x ⊕ x / 2 ^ distance) mask * 2 ^ distance % 2 ^ 64
-
--- a matrix times a byte: the sum of the columns that the byte's ones pick, column k in byte k
-unfoldable pub productOf : ℕ → ℕ → ℕ
-productOf columns x = xorSum 8 (λ k. bit k x * byteAt k columns)

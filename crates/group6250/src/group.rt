@@ -47,7 +47,7 @@ pub fn placed(track: usize, value: u8) -> u64
 }
 
 // The exclusive-or of the eight track bytes.
-pub(crate) fn parity(tracks: u64) -> u8
+pub fn parity(tracks: u64) -> u8
     ensures { λ r. ⌜ r ≡ parityByte tracks ⌝ }
 {
     let half = tracks ^ (tracks >> 32);

@@ -1,8 +1,8 @@
 -- The first number below a bound that passes a test: how a search finds it, and what is known of it.
 -- Assumes nothing.
-use mathlib.Core.Path.{_≡_, sym, ap, _∙_}
+use mathlib.Core.Path.{_≡_, sym, ap, subst, _∙_}
 use mathlib.Core.Bool.{Bool, true, false}
-use Prim.Native.Nat.{ℕ, _<_, _≤_}
+use Prim.Native.Nat.{ℕ, _+_, _<_, _≤_}
 use native.Mathlib.Decide.{decLt}
 use native.Mathlib.Nat.{lt-of-lt-of-le}
 use native.Mathlib.Omega.{arith}
@@ -10,6 +10,14 @@ use lib.ListN.{length, getD}
 use Rattle.indexed.specs.List.{below, firstBelow, firstWhere}
 use Rattle.indexed.proofs.First.{first-at, first-none, first-le, first-before, first-passes}
 use Rattle.indexed.proofs.Tabulate.{length-tabulate, getD-tabulate}
+
+-- what holds below n and at n holds below n + 1
+pub one-more-below : (n : ℕ) (P : ℕ → Type 0) → ((k : ℕ) → k < n → P k) → P n → (k : ℕ) → k < n + 1 → P k
+one-more-below n P seen now k h = by (decLt k n)
+  where
+    by : Dec (k < n) → P k
+    by (yes b) = seen k b
+    by (no b) = let e : n ≡ k = omega arith in subst P e now
 
 pub length-below : (n : ℕ) → length (below n) ≡ n
 unfolding below

@@ -2,7 +2,7 @@
 // words of the 6250 record that is written from them, a line of nine for each group; or the refusal.
 use libc::STDIN_FILENO;
 use libc::STDOUT_FILENO;
-use record6250::Written;
+use writer6250::Written;
 ghost use Prim.Native.Nat.{_+_, _≤_};
 ghost use lib.ListN.{length};
 
@@ -43,7 +43,7 @@ fn main() {
     let mut bytes = [0u8; 4102];
     let count = io::read_full(STDIN_FILENO, &mut bytes);
     let mut words = [0u16; 5274];
-    match record6250::write(&bytes[..count], &mut words) {
+    match writer6250::write(&bytes[..count], &mut words) {
         Written::Delivered(groups) => print_groups(&words, groups),
         Written::Refused(refusal) => {
             io::write_all(STDOUT_FILENO, b"refused ");

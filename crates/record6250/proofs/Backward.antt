@@ -17,7 +17,7 @@ use Rattle.indexed.proofs.Total.{total-same}
 use Rattle.answer.specs.Answer.{Answer, delivered, refused, refusedFor}
 use Rattle.answer.specs.declared.Reason.the-variants.{Length, Space, StrayBits}
 use Rattle.rectangular.specs.Correction.{Judgement}
-use Rattle.group6250.specs.Judged.{changedMap}
+use Rattle.rectangular.specs.Correction.{changedMap}
 use Rattle.group_code.specs.Word.{forwardWord}
 use Rattle.record6250.specs.Group.{stray, judgedGroup, isCorrected, reasonOf, rightBytes, rightWords}
 use Rattle.record6250.specs.Picture.{groupRead, mapRead, pictureWords, pictureMaps}
@@ -36,7 +36,7 @@ module _ (b c : Bool) (words maps words' maps' : List ℕ) (as-many : length map
 
   same-changed : (g : ℕ) → g < length maps → ones (changedTracks c words' maps' g) ≡ ones (changedTracks b words maps g)
   unfolding changedTracks
-  same-changed g h = ap₂ (λ (ws : List ℕ) (j : Judgement). ones (changedMap ws (rightWords j))) (groups g h) (same-judgement g h)
+  same-changed g h = ap₂ (λ (ws : List ℕ) (j : Judgement). ones (changedMap 9 ws (rightWords j))) (groups g h) (same-judgement g h)
 
   pub same-stray : firstStray c words' maps' ≡ firstStray b words maps
   unfolding firstStray

@@ -26,12 +26,12 @@ use Rattle.record6250.specs.Read.{readGroup, readMap, judgement, changed
 use Rattle.record6250.specs.Record.{body, groupsFor, groupBytes, groupWords, firstGroups, writtenRecord}
 use Rattle.record6250.proofs.Bounded.{blocks-bounded}
 use Rattle.record6250.proofs.Cases.{ThreeCases, cases}
-use Rattle.record6250.proofs.Changed.{ones-changed}
+use Rattle.rectangular.proofs.Changed.{ones-changed}
 use Rattle.indexed.proofs.Below.{first-below-before, first-below-none}
 use Rattle.record6250.proofs.FittingGroup.{length-rightBytes, bytes-of-group, group-complete, corrected-fits}
 use Rattle.record6250.proofs.Padding.{length-body, body-suits, unpadded-body, body-below, length-unpadded, groups-of-unpadded, body-of-unpadded}
 use Rattle.record6250.proofs.Reading.{groups-within, words-below, length-read, length-groupBytes, groupBytes-bounded, unpadded-bounded, written-group}
-use Rattle.record6250.proofs.Words.{length-groupWords}
+use Rattle.record6250.proofs.Record.{length-groupWords}
 use Rattle.answer.proofs.Apart.{not-both}
 
 -- ---- what fits is delivered
@@ -75,7 +75,7 @@ module _ (backward : Bool) (words maps : List ℕ) (passes : Passes backward wor
     unfolding changes changedTracks wordsChanged pictureWords writtenRecord firstGroups readGroup rightWords rightValues groupWords
     changes-counted =
         total-same (length maps) _ _
-        (λ g h. ones-changed (readGroup backward words maps g) (rightWords (judgement backward words maps g))
+        (λ g h. ones-changed 9 (readGroup backward words maps g) (rightWords (judgement backward words maps g))
         ∙ differences-same 9 _ _ _ _
         (λ k b. ap₂ eqb
         (sym (getD-blocks 9 (length maps) (groupRead backward (length maps) words) (λ g h. length-read backward (length maps) words g) g k 0 h b))

@@ -1,18 +1,18 @@
 -- The padding of a record's body: the body keeps the rule, the data are what stands before its padding, and bytes that
 -- keep the rule are the body of what stands before theirs.
 -- Assumes nothing.
-use mathlib.Core.Path.{_≡_, sym, ap, ap₂, subst, _∙_}
-use mathlib.Core.Bool.{Bool, true, _&&_}
+use mathlib.Core.Path.{_≡_, refl, sym, ap, ap₂, subst, _∙_}
+use mathlib.Core.Bool.{Bool, true, false, _&&_}
 use mathlib.Core.List.{List, [], _∷_, _++_, append-assoc}
 use Prim.Native.Nat.{ℕ, zero, suc, _+_, _-_, _*_, _<_, _≤_}
 use native.Mathlib.Nat.{zero-lt-suc, sub-zero}
 use native.Mathlib.Omega.{arith}
-use borrow.Author.Tests.{le-leb, eq-eqb}
+use borrow.Author.Tests.{le-leb, lt-leb, eq-eqb}
 use lib.Dec.{T, eqb, leb, leb→le, eqb→eq}
 use lib.ListN.{length, getD, take, drop, replicate, length-append, length-replicate, getD-replicate, drop-of-length-le, take-append-drop, List·getD-append}
 use lib.Seq.{length-take-le, take-at, getD-at, getD-append-add, drop-cons}
 use Rattle.indexed.specs.Test.{allBelow}
-use Rattle.indexed.proofs.Test.{both-left, both-right, tested, all-true}
+use Rattle.indexed.proofs.Test.{both-left, both-right, tested, all-true, all-false}
 use Rattle.record6250.specs.Record.{padding, body, groupsFor}
 use Rattle.record6250.specs.Read.{lastByte, paddingSuits, unpadded}
 
@@ -150,3 +150,24 @@ module _ (l : List ℕ) (n : ℕ) (some : 0 < n) (whole : length l ≡ 7 * n) (s
       ∙ ap (λ (p : ℕ). unpadded l ++ (replicate p 0 ++ (p ∷ []))) padding-is
       ∙ ap (λ (r : List ℕ). unpadded l ++ r) (sym (end-is l suits (omega arith) (lastByte l) (omega arith)))
       ∙ take-append-drop (length l - 1 - lastByte l) l
+
+-- ---- the rule, by what a search has seen
+
+module _ (bytes : List ℕ) where
+  pub last-above : 6 < lastByte bytes → paddingSuits bytes ≡ false
+  unfolding paddingSuits
+  last-above h =
+      ap (λ (b : Bool). b && allBelow (lastByte bytes) (λ k. eqb (getD bytes (length bytes - 2 - k) 0) 0)) (lt-leb (lastByte bytes) 6 h)
+
+  pub not-zero : (k : ℕ) → k < lastByte bytes → eqb (getD bytes (length bytes - 2 - k) 0) 0 ≡ false → paddingSuits bytes ≡ false
+  unfolding paddingSuits
+  not-zero k h e =
+      ap (λ (b : Bool). leb (lastByte bytes) 6 && b) (all-false (lastByte bytes) _ k h e) ∙ and-false (leb (lastByte bytes) 6)
+    where
+      and-false : (t : Bool) → t && false ≡ false
+      and-false true = refl
+      and-false false = refl
+
+  pub all-zero : lastByte bytes ≤ 6 → ((k : ℕ) → k < lastByte bytes → eqb (getD bytes (length bytes - 2 - k) 0) 0 ≡ true) → paddingSuits bytes ≡ true
+  unfolding paddingSuits
+  all-zero h e = ap₂ _&&_ (le-leb (lastByte bytes) 6 h) (all-true (lastByte bytes) _ e)

@@ -20,7 +20,7 @@ use Rattle.record6250.specs.Read.{readGroup, readMap, lengthsSuit, lastB
 use Rattle.record6250.specs.Record.{body, groupsFor, groupBytes, groupWords, firstGroups, writtenRecord}
 use Rattle.record6250.proofs.Bounded.{Bounded, take-bounded, drop-bounded}
 use Rattle.indexed.proofs.Below.{first-below-before}
-use Rattle.record6250.proofs.Words.{length-groupWords}
+use Rattle.record6250.proofs.Record.{length-groupWords}
 
 -- ---- tests that passed
 

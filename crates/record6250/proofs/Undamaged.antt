@@ -34,8 +34,8 @@ use Rattle.record6250.proofs.FittingGroup.{group-word, tracks-group}
 use Rattle.record6250.proofs.Padding.{body-below}
 use Rattle.record6250.proofs.Picture.{length-picture, picture-forward, picture-twice}
 use Rattle.record6250.proofs.Reading.{length-read, groupBytes-bounded, written-group}
-use Rattle.record6250.proofs.Stored.{length-record}
-use Rattle.record6250.proofs.Words.{length-groupWords}
+use Rattle.record6250.proofs.Record.{length-record}
+use Rattle.record6250.proofs.Record.{length-groupWords}
 use Rattle.indexed.proofs.Turned.{turned-lt}
 
 -- ---- the words of a group as they are written: legal, of ten bits

@@ -4,6 +4,3 @@ pub mod Picture
 pub mod Group
 pub mod Read
 pub mod Fits
-pub mod Received
-pub mod Stray
-pub mod Told

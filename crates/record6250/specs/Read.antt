@@ -11,7 +11,7 @@ use Rattle.indexed.specs.Test.{allBelow}
 use Rattle.answer.specs.Answer.{Answer, delivered, refusedFor}
 use Rattle.answer.specs.declared.Reason.the-variants.{Length, Space, StrayBits, Padding}
 use Rattle.rectangular.specs.Correction.{Judgement}
-use Rattle.group6250.specs.Judged.{changedMap}
+use Rattle.rectangular.specs.Correction.{changedMap}
 use Rattle.record6250.specs.Group.{stray, judgedGroup, isCorrected, reasonOf, rightBytes, rightWords}
 use Rattle.record6250.specs.Picture.{groupRead, mapRead}
 
@@ -46,7 +46,7 @@ module _ (backward : Bool) (words maps : List ℕ) where
   judgement g = judgedGroup (readGroup g) (readMap g)
 
   unfoldable pub changedTracks : ℕ → ℕ
-  changedTracks g = changedMap (readGroup g) (rightWords (judgement g))
+  changedTracks g = changedMap 9 (readGroup g) (rightWords (judgement g))
 
   -- the first group with a stray bit, and the first that no group of the code fits; or the number of groups
   unfoldable pub firstStray : ℕ

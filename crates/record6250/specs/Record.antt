@@ -39,7 +39,3 @@ firstGroups n bytes = blocks n (λ g. groupWords (groupBytes g (body bytes)))
 -- the words of the written record
 unfoldable pub writtenRecord : List ℕ → List ℕ
 writtenRecord bytes = firstGroups (groupsFor (length bytes)) bytes
-
--- the output once the first groups are stored
-unfoldable pub groupsStored : ℕ → List ℕ → List ℕ → List ℕ
-groupsStored n bytes output = firstGroups n bytes ++ drop (9 * n) output

@@ -4,18 +4,11 @@ use Prim.Native.Nat.{ℕ, _*_}
 use mathlib.Core.Bool.{cond}
 use mathlib.Core.List.{[], _∷_}
 use lib.Dec.{leb}
-use Rattle.answer.specs.Answer.{Answer, delivered, refusedFor, toldRefusal}
+use Rattle.answer.specs.Answer.{Answer, delivered, refusedFor}
 use Rattle.answer.specs.declared.Reason.the-variants.{Length, Space}
 use Rattle.record6250.specs.Record.{mostData, groupsFor}
-use Rattle.record6250.specs.declared.Written.{Written}
-use Rattle.record6250.specs.declared.Written.the-variants.{Delivered, Refused}
 
--- a delivery tells the number of groups
-abbrev pub toldWritten : Written → Answer
-toldWritten (Delivered groups) = delivered (groups ∷ [])
-toldWritten (Refused r) = toldRefusal r
-
--- the answer for so many bytes of data and so much space: refusals 1 and 2 in this order
+-- the answer for so many bytes of data and so much space: refusals 1 and 2 in this order, or the number of groups
 unfoldable pub writeAnswer : ℕ → ℕ → Answer
 writeAnswer size space =
     cond (leb size mostData)

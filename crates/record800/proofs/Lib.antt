@@ -1,13 +1,10 @@
 pub mod Recorded
 pub mod Registers
-pub mod Tracks
-pub mod Writing
 pub mod Candidate
 pub mod Apart
-pub mod Gathering
 pub mod Judged
 pub mod Picture
-pub mod Deciding
+pub mod Answer
 pub mod Fitting
 pub mod Refused
 pub mod Undamaged

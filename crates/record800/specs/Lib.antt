@@ -2,4 +2,3 @@ pub mod Record
 pub mod Written
 pub mod Read
 pub mod Fits
-pub mod Told

@@ -8,3 +8,4 @@ pub mod Syndrome
 pub mod Pointed
 pub mod Correction
 pub mod Same
+pub mod Changed

@@ -10,7 +10,7 @@ use lib.Dec.{eqb, ltb}
 use lib.ListN.{length, getD}
 use Rattle.indexed.specs.Differ.{differences}
 use Rattle.indexed.specs.List.{tabulate, firstWhere, below, keep}
-use Rattle.register.specs.Bit.{bit}
+use Rattle.register.specs.Bit.{bit, ofBits}
 use Rattle.register.specs.Shift.{shifts}
 use Rattle.register.specs.Sum.{xorSum}
 use Rattle.register.specs.Xor.{_⊕_}
@@ -82,3 +82,9 @@ judged w f n v [] = oneTrack w f v (below (suc w))
 judged w f n v (i ∷ []) = oneTrack w f v (i ∷ [])
 judged w f n v (i ∷ j ∷ []) = twoTracks w f n v i j
 judged w f n v (i ∷ j ∷ k ∷ more) = manyPointed
+
+-- ---- what is changed
+
+-- the tracks in which two groups of n tracks differ, as a map
+unfoldable pub changedMap : ℕ → List ℕ → List ℕ → ℕ
+changedMap n read right = ofBits (tabulate n (λ k. cond (eqb (getD read k 0) (getD right k 0)) 0 1))

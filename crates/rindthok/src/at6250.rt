@@ -1,15 +1,16 @@
 // Records at 6250 for C.
 use crate::refused_status;
-use record6250::Read;
-use record6250::Written;
+use reader6250::Read;
+use writer6250::Written;
 ghost use mathlib.Core.Bool.{true, false};
 ghost use mathlib.Core.Path.{_≡_};
 ghost use lib.ListN.{length};
 ghost use Rattle.answer.specs.Answer.{outputAfter};
 ghost use Rattle.record6250.specs.Read.{readAnswer, readData};
 ghost use Rattle.record6250.specs.Record.{writtenRecord};
-ghost use Rattle.record6250.specs.Told.{toldRead};
-ghost use Rattle.record6250.specs.Written.{toldWritten, writeAnswer};
+ghost use Rattle.reader6250.specs.Told.{toldRead};
+ghost use Rattle.record6250.specs.Written.{writeAnswer};
+ghost use Rattle.writer6250.specs.Written.{toldWritten};
 ghost use Rattle.rindthok.specs.Status.{status, placeTold, valueAfter};
 
 // Writes a 6250 record, and stores the number of its groups.
@@ -25,7 +26,7 @@ pub extern "C" fn rindthok_write6250(
     ensures counted { λ _. ⌜ now (groups .exit) ≡ valueAfter (writeAnswer (length (now (bytes .entry))) (length (now (words .entry)))) 0 (now (groups .entry)) ⌝ }
     ensures output { λ _. ⌜ now (words .exit) ≡ outputAfter (writeAnswer (length (now (bytes .entry))) (length (now (words .entry)))) (writtenRecord (now (bytes .entry))) (now (words .entry)) ⌝ }
 {
-    written_status(record6250::write(bytes, words), groups, place)
+    written_status(writer6250::write(bytes, words), groups, place)
 }
 
 // Reads a 6250 record forward, and stores the data's length and the number of changed words.
@@ -45,7 +46,7 @@ pub extern "C" fn rindthok_read6250_forward(
     ensures output { λ _. ⌜ now (output .exit) ≡ outputAfter (readAnswer false (now (words .entry)) (now (maps .entry)) (length (now (output .entry)))) (readData false (now (words .entry)) (now (maps .entry))) (now (output .entry)) ⌝ }
 {
     read_status(
-        record6250::read_forward(words, maps, output),
+        reader6250::read_forward(words, maps, output),
         size,
         changes,
         place,
@@ -69,7 +70,7 @@ pub extern "C" fn rindthok_read6250_backward(
     ensures output { λ _. ⌜ now (output .exit) ≡ outputAfter (readAnswer true (now (words .entry)) (now (maps .entry)) (length (now (output .entry)))) (readData true (now (words .entry)) (now (maps .entry))) (now (output .entry)) ⌝ }
 {
     read_status(
-        record6250::read_backward(words, maps, output),
+        reader6250::read_backward(words, maps, output),
         size,
         changes,
         place,

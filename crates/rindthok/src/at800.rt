@@ -1,15 +1,16 @@
 // Records at 800 for C.
 use crate::refused_status;
-use record800::Read;
-use record800::Written;
+use reader800::Read;
+use writer800::Written;
 ghost use mathlib.Core.Bool.{true, false};
 ghost use mathlib.Core.Path.{_≡_};
 ghost use lib.ListN.{length};
 ghost use Rattle.answer.specs.Answer.{outputAfter};
 ghost use Rattle.record800.specs.Read.{readAnswer, readData};
 ghost use Rattle.record800.specs.Record.{writtenRecord};
-ghost use Rattle.record800.specs.Told.{toldRead};
-ghost use Rattle.record800.specs.Written.{toldWritten, writeAnswer};
+ghost use Rattle.reader800.specs.Told.{toldRead};
+ghost use Rattle.record800.specs.Written.{writeAnswer};
+ghost use Rattle.writer800.specs.Written.{toldWritten};
 ghost use Rattle.rindthok.specs.Status.{status, placeTold, valueAfter};
 
 // Writes an 800 record, and stores the number of its characters.
@@ -25,7 +26,7 @@ pub extern "C" fn rindthok_write800(
     ensures counted { λ _. ⌜ now (count .exit) ≡ valueAfter (writeAnswer (length (now (bytes .entry))) (length (now (characters .entry)))) 0 (now (count .entry)) ⌝ }
     ensures output { λ _. ⌜ now (characters .exit) ≡ outputAfter (writeAnswer (length (now (bytes .entry))) (length (now (characters .entry)))) (writtenRecord (now (bytes .entry))) (now (characters .entry)) ⌝ }
 {
-    written_status(record800::write(bytes, characters), count, place)
+    written_status(writer800::write(bytes, characters), count, place)
 }
 
 // Reads an 800 record forward, and stores the data's length, the corrected track and the changed characters.
@@ -46,7 +47,7 @@ pub extern "C" fn rindthok_read800_forward(
     ensures output { λ _. ⌜ now (output .exit) ≡ outputAfter (readAnswer false (now (characters .entry)) (length (now (output .entry)))) (readData false (now (characters .entry))) (now (output .entry)) ⌝ }
 {
     read_status(
-        record800::read_forward(characters, output),
+        reader800::read_forward(characters, output),
         size,
         track,
         changes,
@@ -72,7 +73,7 @@ pub extern "C" fn rindthok_read800_backward(
     ensures output { λ _. ⌜ now (output .exit) ≡ outputAfter (readAnswer true (now (characters .entry)) (length (now (output .entry)))) (readData true (now (characters .entry))) (now (output .entry)) ⌝ }
 {
     read_status(
-        record800::read_backward(characters, output),
+        reader800::read_backward(characters, output),
         size,
         track,
         changes,

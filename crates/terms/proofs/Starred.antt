@@ -12,7 +12,7 @@ use Rattle.group_code.specs.Code.{decoded, legal}
 use Rattle.group_code.specs.Word.{legalWord, valueOf, illegality, mirrored, reversedWord, forwardWord}
 use Rattle.rectangular.specs.Correction.{pointedTracks, paritySyndrome, checkSyndrome, weighed, erasure, secondError, errorAt, oneTrack, twoTracks, judged}
 use Rattle.rectangular.specs.Group.{information, check, character, column, track, group, informationOf}
-use Rattle.group6250.specs.Judged.{changedMap}
+use Rattle.rectangular.specs.Correction.{changedMap}
 use Rattle.register.specs.Parity.{parity, parityDigits}
 use Rattle.answer.specs.Answer.{firstAbove}
 use Rattle.record800.specs.Read as eightRead

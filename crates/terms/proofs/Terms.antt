@@ -8,11 +8,11 @@ use native.Mathlib.Nat.{le-of-eq}
 use lib.ListN.{length}
 use Rattle.record6250.specs.Fits as six
 use Rattle.record6250.specs.Read.{readAnswer, readData, judgedAnswer}
-use Rattle.record6250.proofs.Delivery.{all-passed}
+use Rattle.record6250.proofs.Answer.{all-passed}
 use Rattle.record6250.proofs.Fitting.{fits-delivered, delivered-fits, only-one}
 use Rattle.record800.specs.Fits as eight
 use Rattle.record800.specs.Read as eightRead
-use Rattle.record800.proofs.Deciding as eightDeciding
+use Rattle.record800.proofs.Answer as eightAnswer
 use Rattle.record800.proofs.Fitting as eightFitting
 use Rattle.terms.specs.Terms.{Reading, at6250, at800, Passes, Fits, told, answer, result, ThirdTerm}
 
@@ -34,7 +34,7 @@ module _ (backward : Bool) (words maps : List ℕ) (space : ℕ) (passes : six.P
 
 module _ (backward : Bool) (characters : List ℕ) (space : ℕ) (passes : eight.Passes backward characters) (enough : length characters - 2 ≤ space) where
   judged-800 : eightRead.readAnswer backward characters space ≡ eightRead.judgedAnswer (length characters - 2) (eightRead.picture backward characters)
-  judged-800 = eightDeciding.all-passed backward characters space (passes .lengths) enough (le-of-eq (sym (passes .no-stray)))
+  judged-800 = eightAnswer.all-passed backward characters space (passes .lengths) enough (le-of-eq (sym (passes .no-stray)))
 
   third-800 : ThirdTerm (at800 backward characters) space
   unfolding Fits told answer result

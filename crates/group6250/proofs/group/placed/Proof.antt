@@ -6,7 +6,7 @@ use Prim.Native.Nat.{_*_, _^_}
 use borrow.Author.Needs.{needs}
 use borrow.Author.Tests.{le-ltb}
 use Rattle.group6250.specs.Packed.{placedAt}
-use Rattle.group6250.proofs.Corrected.{placed-fits}
+use Rattle.group6250.proofs.Packed.{placed-fits}
 use Rattle.group6250.proofs.group.placed.Statement.{statement}
 use Rattle.group6250.proofs.group.placed.Tie as tie
 

@@ -1,0 +1,162 @@
+-- The judgement as the code makes it: by syndromes in hand, by a track that was searched for, and by counts of the map's bits.
+-- Assumes nothing.
+use mathlib.Core.Path.{_≡_, refl, sym, ap, ap₂, _∙_}
+use mathlib.Core.Bool.{Bool, true, false, cond}
+use mathlib.Core.List.{List, [], _∷_}
+use Prim.Native.Nat.{ℕ, _-_, _<_, _≤_}
+use native.Mathlib.Nat.{suc-ne-zero, suc-inj}
+use native.Mathlib.Omega.{arith}
+use borrow.Author.Tests.{lt-ltb, le-ltb, eq-eqb, ne-eqb}
+use lib.Bits.{bitAnd, xor-zero-r}
+use lib.Count.{ones, onesIn, trailingZeros}
+use lib.Dec.{eqb, ltb}
+use lib.ListN.{length, getD}
+use Rattle.indexed.specs.List.{tabulate, tabulateFrom, firstWhere, below, keep}
+use Rattle.indexed.proofs.Tabulate.{tabulate-same}
+use Rattle.indexed.proofs.Test.{equal}
+use Rattle.register.specs.Bit.{bit}
+use Rattle.register.specs.Xor.{_⊕_}
+use Rattle.rectangular.specs.Constants.{feedback, exponent}
+use Rattle.rectangular.specs.Correction.{Judgement, corrected, manyPointed, noGroup, pointedTracks, paritySyndrome, checkSyndrome, weighed, secondError, errorAt, oneTrack, twoTracks, judged}
+use Rattle.judge6250.proofs.Corrected.{no-error}
+
+-- the judgements of one track and of two, over the syndromes
+abbrev fitting : ℕ → ℕ → ℕ → Bool
+fitting s1 s2 k = eqb (weighed 8 feedback k s1) s2
+
+abbrev oneBy : (ℕ → ℕ) → List ℕ → ℕ → ℕ → Judgement
+oneBy v tracks s1 t = cond (ltb t (length tracks)) (corrected (tabulate 9 (λ j. v j ⊕ errorAt (getD tracks t 0) s1 j))) noGroup
+
+abbrev twoBy : (ℕ → ℕ) → ℕ → ℕ → ℕ → ℕ → Judgement
+twoBy v i j s1 other = corrected (tabulate 9 (λ k. v k ⊕ errorAt i (s1 ⊕ other) k ⊕ errorAt j other k))
+
+-- the search through one track, by what its test gave
+pub first-of-one : (s1 s2 k : ℕ) (b : Bool) → fitting s1 s2 k ≡ b → firstWhere (fitting s1 s2) (k ∷ []) ≡ cond b 0 1
+unfolding firstWhere
+first-of-one s1 s2 k b e = ap (λ (b : Bool). cond b 0 1) e
+
+module _ (v : ℕ → ℕ) (s1 s2 : ℕ) (is1 : s1 ≡ paritySyndrome 8 v) (is2 : s2 ≡ checkSyndrome 8 feedback v) where
+  module _ (tracks : List ℕ) (t : ℕ) (found : firstWhere (fitting s1 s2) tracks ≡ t) where
+    one-by : oneTrack 8 feedback v tracks ≡ oneBy v tracks s1 t
+    unfolding oneTrack
+    one-by =
+        sym (ap₂ (λ (a b : ℕ). oneBy v tracks a (firstWhere (fitting a b) tracks)) is1 is2)
+        ∙ ap (oneBy v tracks s1) found
+
+    -- the track was found, and no other error is taken off
+    pub one-corrected : t < length tracks → (k : ℕ) → getD tracks t 0 ≡ k
+        → (l : List ℕ) → l ≡ tabulate 9 (λ j. v j ⊕ errorAt k s1 j ⊕ errorAt 8 0 j) → corrected l ≡ oneTrack 8 feedback v tracks
+    one-corrected h k at l e =
+        ap corrected
+        (e
+        ∙ tabulate-same 9 _ _
+        (λ j _. ap (λ (x : ℕ). v j ⊕ errorAt k s1 j ⊕ x) (no-error 8 j) ∙ xor-zero-r (v j ⊕ errorAt k s1 j)))
+        ∙ sym (one-by
+        ∙ ap (λ (b : Bool). cond b (corrected (tabulate 9 (λ j. v j ⊕ errorAt (getD tracks t 0) s1 j))) noGroup) (lt-ltb t (length tracks) h)
+        ∙ ap (λ (i : ℕ). corrected (tabulate 9 (λ j. v j ⊕ errorAt i s1 j))) at)
+
+    pub one-no-group : length tracks ≤ t → noGroup ≡ oneTrack 8 feedback v tracks
+    one-no-group h =
+        sym (one-by
+        ∙ ap (λ (b : Bool). cond b (corrected (tabulate 9 (λ j. v j ⊕ errorAt (getD tracks t 0) s1 j))) noGroup) (le-ltb t (length tracks) h))
+
+  pub two-corrected : (i j other : ℕ) → other ≡ secondError 8 feedback exponent i j s1 s2
+      → (l : List ℕ) → l ≡ tabulate 9 (λ k. v k ⊕ errorAt i (s1 ⊕ other) k ⊕ errorAt j other k) → corrected l ≡ twoTracks 8 feedback exponent v i j
+  unfolding twoTracks
+  two-corrected i j other is l e =
+      ap corrected e
+      ∙ ap (twoBy v i j s1) is
+      ∙ ap₂ (λ (a b : ℕ). twoBy v i j a (secondError 8 feedback exponent i j a b)) is1 is2
+
+-- ---- the map of pointed tracks: tests of every map
+
+pointed-count : (m : ℕ) → m < 512 → length (pointedTracks 9 m) ≡ ones m
+unfolding pointedTracks keep below tabulate tabulateFrom bit ones onesIn
+pointed-count = equal 512 (λ m. length (pointedTracks 9 m)) ones tt
+
+pointed-first : (m : ℕ) → m < 512 → getD (pointedTracks 9 m) 0 16 ≡ trailingZeros 16 m
+unfolding pointedTracks keep below tabulate tabulateFrom bit trailingZeros
+pointed-first = equal 512 (λ m. getD (pointedTracks 9 m) 0 16) (trailingZeros 16) tt
+
+pointed-second : (m : ℕ) → m < 512 → getD (pointedTracks 9 m) 1 16 ≡ trailingZeros 16 (bitAnd m (m - 1))
+unfolding pointedTracks keep below tabulate tabulateFrom bit trailingZeros
+pointed-second = equal 512 (λ m. getD (pointedTracks 9 m) 1 16) (λ m. trailingZeros 16 (bitAnd m (m - 1))) tt
+
+-- a list of one element, and of two
+list-of-one : (l : List ℕ) → length l ≡ 1 → l ≡ getD l 0 16 ∷ []
+list-of-one [] e = absurd (suc-ne-zero _ (sym e))
+list-of-one (x ∷ []) e = refl
+list-of-one (x ∷ y ∷ l) e = absurd (suc-ne-zero _ (suc-inj e))
+
+list-of-two : (l : List ℕ) → length l ≡ 2 → l ≡ getD l 0 16 ∷ getD l 1 16 ∷ []
+list-of-two [] e = absurd (suc-ne-zero _ (sym e))
+list-of-two (x ∷ []) e = absurd (suc-ne-zero _ (sym (suc-inj e)))
+list-of-two (x ∷ y ∷ []) e = refl
+list-of-two (x ∷ y ∷ z ∷ l) e = absurd (suc-ne-zero _ (suc-inj (suc-inj e)))
+
+pub none-pointed : (m : ℕ) → m ≡ 0 → pointedTracks 9 m ≡ []
+unfolding pointedTracks keep below tabulate tabulateFrom bit
+none-pointed m e = ap (pointedTracks 9) e
+
+-- what is left of a map without its lowest one, and how many are pointed as that tells: 3 for three or more. A test of every map.
+abbrev others : ℕ → ℕ
+others m = bitAnd m (m - 1)
+
+abbrev told : ℕ → ℕ
+told m = cond (eqb m 0) 0 (cond (eqb (others m) 0) 1 (cond (eqb (others (others m)) 0) 2 3))
+
+counted : (m : ℕ) → m < 512 → cond (ltb 3 (ones m)) 3 (ones m) ≡ told m
+unfolding ones onesIn
+counted = equal 512 (λ m. cond (ltb 3 (ones m)) 3 (ones m)) told tt
+
+few : (n k : ℕ) → k < 3 → cond (ltb 3 n) 3 n ≡ k → n ≡ k
+few n k h e = by (ltb 3 n) e
+  where
+    by : (b : Bool) → cond b 3 n ≡ k → n ≡ k
+    by true e = absurd (omega arith)
+    by false e = e
+
+module _ (m : ℕ) (h : m < 512) (some : m ≡ 0 → ⊥) where
+  pub counts-one : others m ≡ 0 → ones m ≡ 1
+  counts-one e = few (ones m) 1 (omega arith) (counted m h ∙ simp (ne-eqb m 0 some, eq-eqb (others m) 0 e))
+
+  module _ (more : others m ≡ 0 → ⊥) where
+    pub counts-two : others (others m) ≡ 0 → ones m ≡ 2
+    counts-two e =
+        few (ones m) 2 (omega arith) (counted m h ∙ simp (ne-eqb m 0 some, ne-eqb (others m) 0 more, eq-eqb (others (others m)) 0 e))
+
+    pub counts-many : (others (others m) ≡ 0 → ⊥) → (k : ℕ) → k < 3 → ones m ≡ k → ⊥
+    counts-many ne k b e = by (ones m) e (counted m h ∙ simp (ne-eqb m 0 some, ne-eqb (others m) 0 more, ne-eqb (others (others m)) 0 ne))
+      where
+        by : (n : ℕ) → n ≡ k → cond (ltb 3 n) 3 n ≡ 3 → ⊥
+        by n q t = let small : n < 3 = omega arith in
+            absurd (let same : n ≡ 3 = sym (ap (λ (b : Bool). cond b 3 n) (le-ltb 3 n (omega arith))) ∙ t in omega arith)
+
+module _ (m : ℕ) (h : m < 512) where
+  pub one-pointed : ones m ≡ 1 → pointedTracks 9 m ≡ trailingZeros 16 m ∷ []
+  one-pointed e =
+      list-of-one (pointedTracks 9 m) (pointed-count m h ∙ e) ∙ ap (λ (i : ℕ). i ∷ []) (pointed-first m h)
+
+  pub two-pointed : ones m ≡ 2 → pointedTracks 9 m ≡ trailingZeros 16 m ∷ trailingZeros 16 (bitAnd m (m - 1)) ∷ []
+  two-pointed e =
+      list-of-two (pointedTracks 9 m) (pointed-count m h ∙ e) ∙ ap₂ (λ (i j : ℕ). i ∷ j ∷ []) (pointed-first m h) (pointed-second m h)
+
+judged-many : (v : ℕ → ℕ) (l : List ℕ) → (length l ≡ 0 → ⊥) → (length l ≡ 1 → ⊥) → (length l ≡ 2 → ⊥)
+    → manyPointed ≡ judged 8 feedback exponent v l
+unfolding judged
+judged-many v [] a b d = absurd (a refl)
+judged-many v (i ∷ []) a b d = absurd (b refl)
+judged-many v (i ∷ j ∷ []) a b d = absurd (d refl)
+judged-many v (i ∷ j ∷ k ∷ l) a b d = refl
+
+-- a map of no ones is 0
+none-counted : (m : ℕ) → m < 512 → cond (eqb (ones m) 0) m 0 ≡ 0
+unfolding ones onesIn
+none-counted = equal 512 (λ m. cond (eqb (ones m) 0) m 0) (λ m. 0) tt
+
+pub many-pointed : (v : ℕ → ℕ) (m : ℕ) → m < 512 → (m ≡ 0 → ⊥) → (ones m ≡ 1 → ⊥) → (ones m ≡ 2 → ⊥)
+    → manyPointed ≡ judged 8 feedback exponent v (pointedTracks 9 m)
+many-pointed v m h some b d =
+    judged-many v (pointedTracks 9 m)
+    (λ e. some (sym (ap (λ (t : Bool). cond t m 0) (eq-eqb (ones m) 0 (sym (pointed-count m h) ∙ e))) ∙ none-counted m h))
+    (λ e. b (sym (pointed-count m h) ∙ e)) (λ e. d (sym (pointed-count m h) ∙ e))

@@ -1,0 +1,64 @@
+-- The answer of a reading, check by check.
+-- Assumes nothing.
+use mathlib.Core.Path.{_≡_, ap, _∙_}
+use mathlib.Core.Bool.{Bool, true, false, cond}
+use mathlib.Core.List.{List}
+use Prim.Native.Nat.{ℕ, _-_, _<_, _≤_}
+use native.Mathlib.Omega.{arith}
+use borrow.Author.Tests.{lt-ltb, le-ltb, le-leb, lt-leb}
+use lib.Dec.{leb, ltb}
+use lib.ListN.{length}
+use Rattle.indexed.proofs.First.{first-le}
+use Rattle.indexed.proofs.Tabulate.{length-tabulate}
+use Rattle.answer.specs.Answer.{Answer, refused, refusedFor, firstAbove}
+use Rattle.answer.specs.declared.Reason.the-variants.{StrayBits}
+use Rattle.record800.specs.Fits.{Passes}
+use Rattle.record800.specs.Read.{picture, judgedAnswer, judgedData, lengthSuits, firstStray, readAnswer}
+use Rattle.record800.proofs.Picture.{length-picture}
+
+module _ (backward : Bool) (characters : List ℕ) (space : ℕ) where
+  abbrev n : ℕ
+  n = length characters - 2
+
+  abbrev afterSpace : Answer
+  afterSpace = cond (ltb (firstStray backward characters) (length characters)) (refusedFor StrayBits (firstStray backward characters)) (judgedAnswer n (picture backward characters))
+
+  pub length-refused : lengthSuits (length characters) ≡ false → readAnswer backward characters space ≡ refused 1 0
+  unfolding readAnswer
+  length-refused e = ap (λ (b : Bool). cond b (cond (leb n space) afterSpace (refused 2 0)) (refused 1 0)) e
+
+  module _ (suits : lengthSuits (length characters) ≡ true) where
+    length-passed : readAnswer backward characters space ≡ cond (leb n space) afterSpace (refused 2 0)
+    unfolding readAnswer
+    length-passed = ap (λ (b : Bool). cond b (cond (leb n space) afterSpace (refused 2 0)) (refused 1 0)) suits
+
+    pub space-refused : space < n → readAnswer backward characters space ≡ refused 2 0
+    space-refused h = length-passed ∙ ap (λ (b : Bool). cond b afterSpace (refused 2 0)) (lt-leb n space h)
+
+    module _ (enough : n ≤ space) where
+      space-passed : readAnswer backward characters space ≡ afterSpace
+      space-passed = length-passed ∙ ap (λ (b : Bool). cond b afterSpace (refused 2 0)) (le-leb n space enough)
+
+      pub stray-refused : firstStray backward characters < length characters
+          → readAnswer backward characters space ≡ refusedFor StrayBits (firstStray backward characters)
+      stray-refused h =
+          space-passed
+          ∙ ap (λ (b : Bool). cond b (refusedFor StrayBits (firstStray backward characters)) (judgedAnswer n (picture backward characters))) (lt-ltb _ _ h)
+
+      pub all-passed : length characters ≤ firstStray backward characters
+          → readAnswer backward characters space ≡ judgedAnswer n (picture backward characters)
+      all-passed h =
+          space-passed
+          ∙ ap (λ (b : Bool). cond b (refusedFor StrayBits (firstStray backward characters)) (judgedAnswer n (picture backward characters))) (le-ltb _ _ h)
+
+pub passed : (backward : Bool) (characters : List ℕ) → lengthSuits (length characters) ≡ true → length characters ≤ firstStray backward characters
+    → Passes backward characters
+unfolding firstStray firstAbove
+passed backward characters suits h = record {
+  lengths = suits;
+  no-stray = omega (arith, first-le (λ v. ltb 511 v) (picture backward characters), length-picture backward characters);
+}
+
+pub length-data : (n : ℕ) (l : List ℕ) → length (judgedData n l) ≡ n
+unfolding judgedData
+length-data n l = length-tabulate n _

@@ -1,0 +1,87 @@
+-- `writer6250::group::store` meets its contract. The loop's invariant: the first `j` words are stored.
+-- Assumes nothing.
+use mathlib.Core.Path.{_≡_, refl, sym, ap, ap₂, _∙_}
+use mathlib.Core.List.{List, map}
+use Prim.Native.Nat.{ℕ, _≤_, _-_}
+use native.Mathlib.Omega.{arith}
+use borrow.Author.Needs.{needs}
+use denote.Ref.{now}
+use lib.ListN.{length, set, length-set}
+use Rattle.indexed.proofs.Front.{front, front-more, front-all}
+use Rattle.group_code.specs.Code.{wordOf}
+use Rattle.group6250.specs.Packed.{valuesOf}
+use Rattle.writer6250.proofs.Words.{length-words, word-at}
+use Rattle.writer6250.proofs.group.store.Statement.{statement}
+use Rattle.writer6250.proofs.group.store.Tie as tie
+
+abbrev Inv-loop : tie.InvT-loop
+Inv-loop words₀ group j₀ words j =
+    (j ≤ 9) × (length words ≡ length words₀) × (words ≡ front j (map wordOf (valuesOf group)) words₀)
+
+abbrev μ-loop : tie.MeasureT-loop
+μ-loop words₀ group j₀ words j = 9 - j
+
+loop-holds : tie.Need-loop-holds Inv-loop μ-loop
+loop-holds c = (search needs, refl, refl)
+
+value-requires : tie.Need-value-requires Inv-loop μ-loop
+value-requires c κs = search needs
+
+word-requires : tie.Need-word-requires Inv-loop μ-loop
+word-requires c κs = search needs
+
+mul-words : tie.Need-mul-words Inv-loop μ-loop
+mul-words c = search needs
+
+slice-write-words : tie.Need-slice-write-words Inv-loop μ-loop
+slice-write-words c = search needs
+
+add-j : tie.Need-add-j Inv-loop μ-loop
+add-j c = search needs
+
+loop-less : tie.Need-loop-less Inv-loop μ-loop
+loop-less c = search needs
+
+loop-again : tie.Need-loop-again Inv-loop μ-loop
+loop-again c =
+    let at = c .before .before .before .loop in
+    let args = c .before .before .before .before .before .args in
+    let result : List ℕ = map wordOf (valuesOf (args .group)) in (
+      search needs,
+      length-set (at .words) (at .j) _ ∙ at .inv .1,
+      ap₂ (λ (l : List ℕ) (w : ℕ). set l (at .j) w) (at .inv .2)
+          (c .word .ensures
+          ∙ ap wordOf (c .before .value .ensures)
+          ∙ sym (word-at (args .group) (at .j) (c .before .before .loop-test .taken)))
+          ∙ front-more (at .j) result (now (args .words)) 0 (omega (arith, length-words (args .group))) (omega arith),
+    )
+
+same-length : tie.Need-same-length Inv-loop μ-loop
+same-length c = c .before .loop .inv .1
+
+returns : tie.Need-returns Inv-loop μ-loop
+returns c =
+    let at = c .before .loop in
+    let args = c .before .before .before .args in
+    let result : List ℕ = map wordOf (valuesOf (args .group)) in
+    let all : at .j ≡ 9 = omega arith in
+    at .inv .2
+    ∙ ap (λ (k : ℕ). front k result (now (args .words))) all
+    ∙ front-all 9 result (now (args .words)) (sym (length-words (args .group)))
+
+pub store-spec : {M : Type 1} → statement M
+store-spec =
+    tie.close
+    (tie.spec
+    Inv-loop
+    μ-loop
+    loop-holds
+    value-requires
+    word-requires
+    mul-words
+    slice-write-words
+    add-j
+    loop-less
+    loop-again
+    same-length
+    returns)

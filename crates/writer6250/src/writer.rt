@@ -1,0 +1,71 @@
+// Writing a record.
+use crate::Written;
+use crate::group::store;
+use answer::Reason;
+use answer::Refusal;
+use group6250::group::written;
+use rectangular::Code6250;
+ghost use mathlib.Core.Path.{_≡_};
+ghost use Prim.Native.Nat.{_*_, _/_, _≤_};
+ghost use lib.ListN.{length};
+ghost use Rattle.answer.specs.Answer.{outputAfter};
+ghost use Rattle.record6250.specs.Record.{body, groupBytes, writtenRecord};
+ghost use Rattle.record6250.specs.Written.{writeAnswer};
+ghost use Rattle.writer6250.specs.Written.{toldWritten, groupsStored};
+
+// The bytes of the last group: the data that are left, the zero bytes, and the byte that counts them.
+fn last_group(bytes: &[u8]) -> [u8; 7]
+    ensures { λ r. ⌜ r ≡ groupBytes (length (now (bytes .entry)) / 7) (body (now (bytes .entry))) ⌝ }
+{
+    let mut last = [0u8; 7];
+    let left = bytes.len() % 7;
+    let start = bytes.len() - left;
+    let mut k = 0;
+    while k < left {
+        last[k] = bytes[start + k];
+        k += 1;
+    }
+    last[6] = (6 - left) as u8;
+    last
+}
+
+// Writes the groups that are full of data. Both calls of it share one compiled loop, so that
+// each table is compiled in at one place (decision D11).
+fn write_groups(bytes: &[u8], words: &mut [u16])
+    requires { ⌜ 9 * (length (now bytes) / 7) ≤ length (now words) ⌝ }
+    ensures { λ _. ⌜ now (words .exit) ≡ groupsStored (length (now (bytes .entry)) / 7) (now (bytes .entry)) (now (words .entry)) ⌝ }
+{
+    let full = bytes.len() / 7;
+    let mut g = 0;
+    while g < full {
+        let from = g * 7;
+        let to = g * 9;
+        store(&mut words[to..], written(&bytes[from..]));
+        g += 1;
+    }
+}
+
+// Writes a record: data as words, into the front of the output.
+pub fn write(bytes: &[u8], words: &mut [u16]) -> Written
+    ensures answer { λ r. ⌜ toldWritten r ≡ writeAnswer (length (now (bytes .entry))) (length (now (words .entry))) ⌝ }
+    ensures output { λ r. ⌜ now (words .exit) ≡ outputAfter (toldWritten r) (writtenRecord (now (bytes .entry))) (now (words .entry)) ⌝ }
+{
+    if bytes.len() > Code6250::MOST_DATA {
+        return Written::Refused(Refusal {
+            reason: Reason::Length,
+            place: 0,
+        });
+    }
+    let full = bytes.len() / 7;
+    if words.len() < (full + 1) * 9 {
+        return Written::Refused(Refusal {
+            reason: Reason::Space,
+            place: 0,
+        });
+    }
+    write_groups(bytes, words);
+    let last = last_group(bytes);
+    let to = full * 9;
+    write_groups(&last, &mut words[to..]);
+    Written::Delivered(full + 1)
+}
