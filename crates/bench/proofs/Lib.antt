@@ -1,5 +1,2 @@
 pub mod Numbers
-pub mod Turned
-pub mod Legal
-pub mod Marked
-pub mod Filled
+pub mod Stores

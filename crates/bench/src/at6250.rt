@@ -1,12 +1,12 @@
 // The bench at 6250 bits per inch (document 01, "The 6250 record").
-use crate::marks::View;
-use crate::marks::group_marks;
-use crate::marks::refused_column;
 use crate::picture;
 use crate::print;
 use crate::reading;
 use answer::Refusal;
 use libc::STDIN_FILENO;
+use marks::marks::View;
+use marks::marks::group_marks;
+use marks::marks::refused_column;
 use reader6250::Figures;
 use reader6250::Read;
 use writer6250::Written;

@@ -1,12 +1,12 @@
 // The bench at 800 bits per inch (document 01, "The 800 record").
-use crate::marks::View;
-use crate::marks::refused_column;
-use crate::marks::run_marks;
 use crate::picture;
 use crate::print;
 use crate::reading;
 use answer::Refusal;
 use libc::STDIN_FILENO;
+use marks::marks::View;
+use marks::marks::refused_column;
+use marks::marks::run_marks;
 use reader800::Figures;
 use reader800::Read;
 use writer800::Written;

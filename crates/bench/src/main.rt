@@ -3,8 +3,6 @@
 mod arguments;
 mod at6250;
 mod at800;
-mod forward;
-mod marks;
 mod picture;
 mod print;
 mod reading;

@@ -1,13 +1,16 @@
 -- A result that a loop stores at the front of an output, one element a turn: after k turns the output holds the result's
 -- first k elements, and behind them what it held.
 -- Assumes nothing.
-use mathlib.Core.Path.{_≡_, sym, ap, _∙_}
+use mathlib.Core.Path.{_≡_, sym, ap, ap₂, _∙_}
 use mathlib.Core.List.{List, _++_}
 use Prim.Native.Nat.{ℕ, suc, _+_, _≤_, _<_}
 use native.Mathlib.Nat.{le-of-lt, add-sub-of-le}
 use native.Mathlib.Numerals.{add-one}
 use lib.ListN.{length, getD, take, drop, set, length-append, length-drop}
 use lib.Seq.{drop-cons, take-suc, set-at, append-snoc, length-take-le, take-length}
+use native.Mathlib.Omega.{arith}
+use Rattle.indexed.specs.List.{tabulate}
+use Rattle.indexed.proofs.Tabulate.{length-tabulate, getD-tabulate}
 
 abbrev pub front : {A : Type 0} → ℕ → List A → List A → List A
 front k result output = take k result ++ drop k output
@@ -32,3 +35,15 @@ length-front k result output hr ho =
 pub front-all : {A : Type 0} (k : ℕ) (result output : List A) → k ≡ length result → front k result output ≡ result ++ drop k output
 front-all k result output e =
     ap (λ (j : ℕ). take j result ++ drop k output) e ∙ ap (λ (r : List _). r ++ drop k output) (take-length result)
+
+-- ---- filled with the values of a function
+
+module _ (n : ℕ) (f : ℕ → ℕ) (out l : List ℕ) (k : ℕ) where
+  pub filled-more : (v : ℕ) → l ≡ front k (tabulate n f) out → v ≡ f k → k < n → k < length out → set l k v ≡ front (k + 1) (tabulate n f) out
+  filled-more v hl hv h ho =
+      ap₂ (λ (xs : List ℕ) (x : ℕ). set xs k x) hl (hv ∙ sym (getD-tabulate n f k 0 h))
+      ∙ front-more k (tabulate n f) out 0 (omega (arith, length-tabulate n f)) ho
+
+  pub filled-all : l ≡ front k (tabulate n f) out → k ≡ n → l ≡ tabulate n f ++ drop n out
+  filled-all hl h =
+      hl ∙ front-all k (tabulate n f) out (h ∙ sym (length-tabulate n f)) ∙ ap (λ (j : ℕ). tabulate n f ++ drop j out) h

@@ -6,8 +6,8 @@ use native.Mathlib.Omega.{arith}
 use borrow.Author.Needs.{needs}
 use lib.ListN.{length, getD, length-set}
 use Rattle.indexed.proofs.Front.{front}
-use Rattle.bench.specs.Marks.{rowOf}
-use Rattle.bench.proofs.Filled.{filled-more, filled-all}
+use Rattle.bench.specs.Picture.{rowOf}
+use Rattle.indexed.proofs.Front.{filled-more, filled-all}
 use Rattle.bench.proofs.picture.gather.Statement.{statement}
 use Rattle.bench.proofs.picture.gather.Tie as tie
 

@@ -1,0 +1,75 @@
+-- `marks::marks::run_marks` meets its contract. The loop's invariant: the first i marks stand at the front.
+-- Assumes nothing.
+use Prim.Native.Nat.{_-_, _*_, _/_, _%_, _≤_}
+use mathlib.Core.Path.{_≡_, refl, _∙_}
+use native.Mathlib.Omega.{arith}
+use borrow.Author.Needs.{needs}
+use lib.ListN.{length, length-set}
+use Rattle.indexed.proofs.Front.{front}
+use Rattle.marks.specs.Marks.{runMark, runMarks}
+use Rattle.indexed.proofs.Front.{filled-more, filled-all}
+use Rattle.marks.proofs.marks.run_marks.Statement.{statement}
+use Rattle.marks.proofs.marks.run_marks.Tie as tie
+
+abbrev Inv-loop : tie.InvT-loop
+Inv-loop characters right view columns marks₀ end i₀ marks i =
+    (i ≤ end) × (length marks ≡ length marks₀) × (marks ≡ front i (runMarks view characters right columns) marks₀)
+
+abbrev μ-loop : tie.MeasureT-loop
+μ-loop characters right view columns marks₀ end i₀ marks i = end - i
+
+mul-end : tie.Need-mul-end Inv-loop μ-loop
+mul-end c = search needs
+
+loop-holds : tie.Need-loop-holds Inv-loop μ-loop
+loop-holds c = (search needs, refl, refl)
+
+run-mark-requires : tie.Need-run-mark-requires Inv-loop μ-loop
+run-mark-requires c κs = search needs
+
+slice-write-marks : tie.Need-slice-write-marks Inv-loop μ-loop
+slice-write-marks c = search needs
+
+add-i : tie.Need-add-i Inv-loop μ-loop
+add-i c = search needs
+
+loop-less : tie.Need-loop-less Inv-loop μ-loop
+loop-less c = search needs
+
+loop-again : tie.Need-loop-again Inv-loop μ-loop
+unfolding runMarks
+loop-again c =
+    let l = c .before .before .loop in
+    let args = c .before .before .before .before .before .before .args in (
+      search needs,
+      length-set (l .marks) (l .i) _ ∙ l .inv .1,
+      filled-more (9 * args .columns) (λ j. runMark (args .view) (args .characters .now) (args .right .now) (j / 9) (j % 9))
+          (args .marks .now) (l .marks) (l .i) _ (l .inv .2) (c .run-mark .ensures) (omega arith) (omega arith),
+    )
+
+same-length : tie.Need-same-length Inv-loop μ-loop
+same-length c = search needs
+
+returns : tie.Need-returns Inv-loop μ-loop
+unfolding runMarks
+returns c =
+    let l = c .before .loop in
+    let args = c .before .before .before .before .before .args in
+    filled-all (9 * args .columns) (λ j. runMark (args .view) (args .characters .now) (args .right .now) (j / 9) (j % 9))
+    (args .marks .now) (l .marks) (l .i) (l .inv .2) (omega arith)
+
+pub run-marks-spec : {M : Type 1} → statement M
+run-marks-spec =
+    tie.close
+    (tie.spec
+    Inv-loop
+    μ-loop
+    mul-end
+    loop-holds
+    run-mark-requires
+    slice-write-marks
+    add-i
+    loop-less
+    loop-again
+    same-length
+    returns)
