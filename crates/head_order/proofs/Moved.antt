@@ -1,25 +1,25 @@
--- What the two routines for nine words share, and what the two for maps do. And the promise of going out and back.
+-- What the two routines for nine words share, and what the two for maps do.
 -- Assumes nothing.
 use mathlib.Core.Path.{_≡_, refl, sym, ap, _∙_}
 use mathlib.Core.Bool.{Bool, true, false, cond}
 use mathlib.Core.List.{List, [], _++_, append-nil}
-use Prim.Native.Nat.{ℕ, _≤_, _<_}
-use native.Mathlib.Nat.{zero-lt-suc}
-use native.Mathlib.Decide.{decLt}
+use Prim.Native.Nat.{ℕ, _≤_}
 use native.Mathlib.Omega.{arith}
 use borrow.Author.Tests.{eqb-true, leb-true}
 use lib.Dec.{eqb, leb, ltb}
-use lib.ListN.{length, getD, drop, List·getD-eq-default}
-use Rattle.register.specs.Bit.{bitsOf, ofBits}
-use Rattle.register.proofs.Bit.{Digits, length-bitsOf, digits-bitsOf, ofBits-bitsOf, bitsOf-ofBits}
+use lib.ListN.{length, drop}
+use Rattle.register.specs.Bit.{bitsOf}
+use Rattle.register.proofs.Bit.{Digits}
 use Rattle.answer.specs.Answer.{Answer, delivered, refusedFor, outputAfter, firstAbove}
 use Rattle.answer.specs.declared.Refusal.{Refusal}
 use Rattle.answer.specs.declared.Reason.the-variants.{Length, Space, StrayBits}
+use Rattle.track_order.specs.Moved.{wordsAnswer}
+use Rattle.track_order.specs.Order.{arranged}
+use Rattle.track_order.proofs.Order.{length-arranged}
+use Rattle.track_order.proofs.Restored.{arranged-digits}
 use Rattle.head_order.specs.declared.MovedWords.{MovedWords}
 use Rattle.head_order.specs.declared.MovedWords.the-variants.{Delivered, Refused}
-use Rattle.head_order.specs.Moved.{toldWords, wordsAnswer}
-use Rattle.head_order.specs.Order.{order, inverse, arranged, toPhysical, toAlgebraic, mapToPhysical, mapToAlgebraic}
-use Rattle.head_order.proofs.Order.{order-permutation, length-arranged, getD-arranged, out-and-back, back-and-out}
+use Rattle.head_order.specs.Told.{toldWords}
 
 -- ---- nine words
 
@@ -50,16 +50,6 @@ refused-output moved target a r e = ap (λ (x : MovedWords). outputAfter (toldWo
 
 -- ---- a map
 
--- the nine bits of a map, arranged, are nine bits
-pub arranged-digits : (places : List ℕ) (m : ℕ) → Digits (arranged places (bitsOf 9 m))
-arranged-digits places m k = by (decLt k 9)
-  where
-    by : Dec (k < 9) → getD (arranged places (bitsOf 9 m)) k 0 < 2
-    by (yes h) = rw (getD-arranged places (bitsOf 9 m) k h) (digits-bitsOf 9 m (getD places k 0))
-    by (no h) =
-        rw (List·getD-eq-default (arranged places (bitsOf 9 m)) 0 {n = k} (omega (arith, length-arranged places (bitsOf 9 m))))
-        (zero-lt-suc 1)
-
 -- what the loops leave in an array of nine, and that it is nine bits
 module _ (places source after : List ℕ) (m : ℕ) (bits : source ≡ bitsOf 9 m) (stored : after ≡ arranged places source ++ []) where
   pub array-arranged : after ≡ arranged places (bitsOf 9 m)
@@ -67,30 +57,3 @@ module _ (places source after : List ℕ) (m : ℕ) (bits : source ≡ bitsOf 9 
 
   pub array-digits : (length after ≡ 9) × Digits after
   array-digits = rw array-arranged (length-arranged places (bitsOf 9 m), arranged-digits places m)
-
--- ---- out and back
-
-pub words-physical-and-back : (words : List ℕ) → length words ≡ 9 → toAlgebraic (toPhysical words) ≡ words
-unfolding toAlgebraic toPhysical
-words-physical-and-back = out-and-back order order-permutation
-
-pub words-algebraic-and-back : (words : List ℕ) → length words ≡ 9 → toPhysical (toAlgebraic words) ≡ words
-unfolding toAlgebraic toPhysical
-words-algebraic-and-back = back-and-out order order-permutation
-
--- a map arranged one way and then the other
-map-restored : (first second : List ℕ) → ((l : List ℕ) → length l ≡ 9 → arranged second (arranged first l) ≡ l)
-    → (m : ℕ) → m < 512 → ofBits (arranged second (bitsOf 9 (ofBits (arranged first (bitsOf 9 m))))) ≡ m
-map-restored first second back m h =
-    ap (λ (l : List ℕ). ofBits (arranged second l))
-    (bitsOf-ofBits 9 (arranged first (bitsOf 9 m)) (length-arranged first (bitsOf 9 m)) (arranged-digits first m))
-    ∙ ap ofBits (back (bitsOf 9 m) (length-bitsOf 9 m))
-    ∙ ofBits-bitsOf 9 m h
-
-pub map-physical-and-back : (m : ℕ) → m < 512 → mapToAlgebraic (mapToPhysical m) ≡ m
-unfolding mapToAlgebraic mapToPhysical toAlgebraic toPhysical
-map-physical-and-back = map-restored order (inverse order) (out-and-back order order-permutation)
-
-pub map-algebraic-and-back : (m : ℕ) → m < 512 → mapToPhysical (mapToAlgebraic m) ≡ m
-unfolding mapToAlgebraic mapToPhysical toAlgebraic toPhysical
-map-algebraic-and-back = map-restored (inverse order) order (back-and-out order order-permutation)

@@ -9,8 +9,9 @@ ghost use mathlib.Core.Path.{_≡_};
 ghost use Prim.Native.Nat.{ℕ, _-_, _≤_, _<_};
 ghost use lib.ListN.{length, getD};
 ghost use Rattle.register.specs.Bit.{bitsOf, ofBits};
-ghost use Rattle.head_order.specs.Order.{order};
-ghost use Rattle.head_order.specs.Moved.{toldWords, wordsAnswer};
+ghost use Rattle.track_order.specs.Order.{order};
+ghost use Rattle.track_order.specs.Moved.{wordsAnswer};
+ghost use Rattle.head_order.specs.Told.{toldWords};
 
 // A track of the head, 1 to 9.
 pub struct PhysicalTrack(pub usize);

@@ -9,8 +9,9 @@ ghost use mathlib.Core.List.{_++_};
 ghost use Prim.Native.Nat.{_≤_};
 ghost use lib.ListN.{length, drop};
 ghost use Rattle.answer.specs.Answer.{outputAfter};
-ghost use Rattle.head_order.specs.Order.{toAlgebraic, mapToAlgebraic};
-ghost use Rattle.head_order.specs.Moved.{toldWords, toldMap, wordsAnswer, mapAnswer};
+ghost use Rattle.track_order.specs.Order.{toAlgebraic, mapToAlgebraic};
+ghost use Rattle.track_order.specs.Moved.{wordsAnswer, mapAnswer};
+ghost use Rattle.head_order.specs.Told.{toldWords, toldMap};
 
 // Nine words of head order, put into code order at the front of the target.
 fn arrange(source: &[u16], target: &mut [u16])

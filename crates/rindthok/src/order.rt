@@ -5,8 +5,9 @@ use head_order::MovedWords;
 ghost use mathlib.Core.Path.{_≡_};
 ghost use lib.ListN.{length};
 ghost use Rattle.answer.specs.Answer.{outputAfter};
-ghost use Rattle.head_order.specs.Order.{toPhysical, toAlgebraic, mapToPhysical, mapToAlgebraic};
-ghost use Rattle.head_order.specs.Moved.{toldWords, toldMap, wordsAnswer, mapAnswer};
+ghost use Rattle.track_order.specs.Order.{toPhysical, toAlgebraic, mapToPhysical, mapToAlgebraic};
+ghost use Rattle.track_order.specs.Moved.{wordsAnswer, mapAnswer};
+ghost use Rattle.head_order.specs.Told.{toldWords, toldMap};
 ghost use Rattle.rindthok.specs.Status.{status, placeTold, valueAfter};
 
 // Nine words from code order to head order.

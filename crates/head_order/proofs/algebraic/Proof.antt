@@ -1,7 +1,7 @@
 -- `head_order::algebraic` meets its contract: the constant is the definition's order.
 -- Assumes nothing.
 use mathlib.Core.Path.{refl}
-use Rattle.head_order.specs.Order.{order}
+use Rattle.track_order.specs.Order.{order}
 use borrow.Author.Needs.{needs}
 use Rattle.head_order.proofs.algebraic.Statement.{statement}
 use Rattle.head_order.proofs.algebraic.Tie as tie

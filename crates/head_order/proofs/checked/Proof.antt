@@ -2,7 +2,7 @@
 -- Assumes nothing.
 use borrow.Author.Needs.{needs}
 use borrow.Author.Tests.{eq-eqb, ne-eqb, le-leb, lt-leb, lt-ltb, le-ltb}
-use Rattle.head_order.specs.Moved.{wordsAnswer}
+use Rattle.track_order.specs.Moved.{wordsAnswer}
 use Rattle.head_order.proofs.checked.Statement.{statement}
 use Rattle.head_order.proofs.checked.Tie as tie
 

@@ -9,8 +9,8 @@ use native.Mathlib.Omega.{arith}
 use borrow.Author.Needs.{needs}
 use denote.Ref.{now}
 use lib.ListN.{length, getD, set, length-set}
-use Rattle.head_order.specs.Order.{order, toAlgebraic}
-use Rattle.head_order.proofs.Order.{order-permutation, scattered, scattered-all, on-track, on-track-below}
+use Rattle.track_order.specs.Order.{order, toAlgebraic}
+use Rattle.track_order.proofs.Order.{order-permutation, scattered, scattered-all, on-track, on-track-below}
 use Rattle.head_order.proofs.to_algebraic.arrange.Statement.{statement}
 use Rattle.head_order.proofs.to_algebraic.arrange.Tie as tie
 

@@ -2,8 +2,8 @@
 -- Assumes nothing.
 use borrow.Author.Needs.{needs}
 use denote.Ref.{now}
-use Rattle.head_order.specs.Order.{order, inverse, toAlgebraic}
-use Rattle.head_order.proofs.Order.{length-arranged}
+use Rattle.track_order.specs.Order.{order, inverse, toAlgebraic}
+use Rattle.track_order.proofs.Order.{length-arranged}
 use Rattle.head_order.proofs.Moved.{delivered-sizes, delivered-output, refused-output}
 use Rattle.head_order.proofs.to_algebraic.words.Statement.{statement}
 use Rattle.head_order.proofs.to_algebraic.words.Tie as tie

@@ -9,8 +9,8 @@ use borrow.Author.Needs.{needs}
 use denote.Ref.{now}
 use lib.ListN.{length, getD, set, length-set}
 use Rattle.indexed.proofs.Front.{front, front-more, front-all}
-use Rattle.head_order.specs.Order.{order, toPhysical}
-use Rattle.head_order.proofs.Order.{length-arranged, getD-arranged, on-track, on-track-below}
+use Rattle.track_order.specs.Order.{order, toPhysical}
+use Rattle.track_order.proofs.Order.{length-arranged, getD-arranged, on-track, on-track-below}
 use Rattle.head_order.proofs.to_physical.arrange.Statement.{statement}
 use Rattle.head_order.proofs.to_physical.arrange.Tie as tie
 

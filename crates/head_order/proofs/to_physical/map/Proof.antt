@@ -7,8 +7,8 @@ use borrow.Author.Needs.{needs}
 use borrow.Author.Tests.{le-leb, lt-leb}
 use Rattle.register.specs.Bit.{ofBits}
 use Rattle.answer.specs.Answer.{delivered}
-use Rattle.head_order.specs.Moved.{mapAnswer}
-use Rattle.head_order.specs.Order.{order, toPhysical, mapToPhysical}
+use Rattle.track_order.specs.Moved.{mapAnswer}
+use Rattle.track_order.specs.Order.{order, toPhysical, mapToPhysical}
 use Rattle.head_order.proofs.Moved.{array-arranged, array-digits}
 use Rattle.head_order.proofs.to_physical.map.Statement.{statement}
 use Rattle.head_order.proofs.to_physical.map.Tie as tie

@@ -4,7 +4,7 @@ use mathlib.Core.Path.{ap, _∙_}
 use borrow.Author.Needs.{needs}
 use denote.Ref.{now}
 use Rattle.answer.specs.Answer.{Answer, outputAfter}
-use Rattle.head_order.specs.Order.{toAlgebraic}
+use Rattle.track_order.specs.Order.{toAlgebraic}
 use Rattle.rindthok.specs.Status.{status, placeTold}
 use Rattle.rindthok.proofs.order.rindthok_words_to_algebraic.Statement.{statement}
 use Rattle.rindthok.proofs.order.rindthok_words_to_algebraic.Tie as tie

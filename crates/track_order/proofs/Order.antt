@@ -14,7 +14,7 @@ use Rattle.indexed.specs.List.{firstWhere}
 use Rattle.indexed.proofs.Test.{tested}
 use Rattle.indexed.proofs.First.{first-passes}
 use Rattle.indexed.proofs.Tabulate.{length-tabulate, getD-tabulate}
-use Rattle.head_order.specs.Order.{order, indexIn, inverse, Permutation, arranged}
+use Rattle.track_order.specs.Order.{order, indexIn, inverse, Permutation, arranged}
 
 pub order-permutation : Permutation order
 unfolding order indexIn firstWhere

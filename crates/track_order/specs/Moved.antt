@@ -5,21 +5,8 @@ use mathlib.Core.Bool.{cond}
 use mathlib.Core.List.{List, [], _∷_}
 use lib.Dec.{leb, ltb, eqb}
 use lib.ListN.{length}
-use Rattle.answer.specs.Answer.{Answer, delivered, refusedFor, toldRefusal, firstAbove}
+use Rattle.answer.specs.Answer.{Answer, delivered, refusedFor, firstAbove}
 use Rattle.answer.specs.declared.Reason.the-variants.{Length, Space, StrayBits}
-use Rattle.head_order.specs.declared.MovedWords.{MovedWords}
-use Rattle.head_order.specs.declared.MovedWords.the-variants as Words
-use Rattle.head_order.specs.declared.MovedMap.{MovedMap}
-use Rattle.head_order.specs.declared.MovedMap.the-variants as Map
-
--- what each answer of the code tells
-abbrev pub toldWords : MovedWords → Answer
-toldWords Words.Delivered = delivered []
-toldWords (Words.Refused r) = toldRefusal r
-
-abbrev pub toldMap : MovedMap → Answer
-toldMap (Map.Delivered m) = delivered (m ∷ [])
-toldMap (Map.Refused r) = toldRefusal r
 
 -- nine words to a target with so much space: refusals 1, 2 and 3 in this order, 3 told with the lowest word in the source
 unfoldable pub wordsAnswer : List ℕ → ℕ → Answer

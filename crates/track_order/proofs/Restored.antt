@@ -1,0 +1,48 @@
+-- What is moved out and back is restored: nine words, and a pointer map.
+-- Assumes nothing.
+use mathlib.Core.Path.{_≡_, ap, _∙_}
+use mathlib.Core.List.{List}
+use Prim.Native.Nat.{ℕ, _<_}
+use native.Mathlib.Nat.{zero-lt-suc}
+use native.Mathlib.Decide.{decLt}
+use native.Mathlib.Omega.{arith}
+use lib.ListN.{length, getD, List·getD-eq-default}
+use Rattle.register.specs.Bit.{bitsOf, ofBits}
+use Rattle.register.proofs.Bit.{Digits, length-bitsOf, digits-bitsOf, ofBits-bitsOf, bitsOf-ofBits}
+use Rattle.track_order.specs.Order.{order, inverse, arranged, toPhysical, toAlgebraic, mapToPhysical, mapToAlgebraic}
+use Rattle.track_order.proofs.Order.{order-permutation, length-arranged, getD-arranged, out-and-back, back-and-out}
+
+-- the nine bits of a map, arranged, are nine bits
+pub arranged-digits : (places : List ℕ) (m : ℕ) → Digits (arranged places (bitsOf 9 m))
+arranged-digits places m k = by (decLt k 9)
+  where
+    by : Dec (k < 9) → getD (arranged places (bitsOf 9 m)) k 0 < 2
+    by (yes h) = rw (getD-arranged places (bitsOf 9 m) k h) (digits-bitsOf 9 m (getD places k 0))
+    by (no h) =
+        rw (List·getD-eq-default (arranged places (bitsOf 9 m)) 0 {n = k} (omega (arith, length-arranged places (bitsOf 9 m))))
+        (zero-lt-suc 1)
+
+pub words-physical-and-back : (words : List ℕ) → length words ≡ 9 → toAlgebraic (toPhysical words) ≡ words
+unfolding toAlgebraic toPhysical
+words-physical-and-back = out-and-back order order-permutation
+
+pub words-algebraic-and-back : (words : List ℕ) → length words ≡ 9 → toPhysical (toAlgebraic words) ≡ words
+unfolding toAlgebraic toPhysical
+words-algebraic-and-back = back-and-out order order-permutation
+
+-- a map arranged one way and then the other
+map-restored : (first second : List ℕ) → ((l : List ℕ) → length l ≡ 9 → arranged second (arranged first l) ≡ l)
+    → (m : ℕ) → m < 512 → ofBits (arranged second (bitsOf 9 (ofBits (arranged first (bitsOf 9 m))))) ≡ m
+map-restored first second back m h =
+    ap (λ (l : List ℕ). ofBits (arranged second l))
+    (bitsOf-ofBits 9 (arranged first (bitsOf 9 m)) (length-arranged first (bitsOf 9 m)) (arranged-digits first m))
+    ∙ ap ofBits (back (bitsOf 9 m) (length-bitsOf 9 m))
+    ∙ ofBits-bitsOf 9 m h
+
+pub map-physical-and-back : (m : ℕ) → m < 512 → mapToAlgebraic (mapToPhysical m) ≡ m
+unfolding mapToAlgebraic mapToPhysical toAlgebraic toPhysical
+map-physical-and-back = map-restored order (inverse order) (out-and-back order order-permutation)
+
+pub map-algebraic-and-back : (m : ℕ) → m < 512 → mapToPhysical (mapToAlgebraic m) ≡ m
+unfolding mapToAlgebraic mapToPhysical toAlgebraic toPhysical
+map-algebraic-and-back = map-restored (inverse order) order (back-and-out order order-permutation)
