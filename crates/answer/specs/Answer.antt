@@ -1,7 +1,7 @@
 -- What a call answers, as document 01 tells it: a delivery with its values, or a refusal with its number and its place.
 -- Assumes nothing.
 use Prim.Native.Nat.{ℕ}
-use mathlib.Core.List.{List, _++_}
+use mathlib.Core.List.{List, [], _∷_, _++_}
 use lib.Dec.{ltb}
 use lib.ListN.{length, drop}
 use Rattle.indexed.specs.List.{firstWhere}
@@ -19,6 +19,10 @@ numberOf NoGroup = 5
 numberOf Padding = 6
 numberOf NoRecord = 7
 numberOf SeveralRecords = 8
+
+-- the numbers of all refusals: each reason's is among them
+abbrev pub refusals : List ℕ
+refusals = 1 ∷ 2 ∷ 3 ∷ 4 ∷ 5 ∷ 6 ∷ 7 ∷ 8 ∷ []
 
 -- an answer: the values that a delivery tells, in the paper's order, or a refusal's number and place
 pub data Answer : Type 0 where

@@ -1,19 +1,22 @@
--- The answer of a reading, check by check.
+-- The answer of a reading, check by check; and what a delivery says of the checks, in reading and in writing.
 -- Assumes nothing.
 use mathlib.Core.Path.{_≡_, ap, _∙_}
 use mathlib.Core.Bool.{Bool, true, false, cond}
-use mathlib.Core.List.{List}
+use mathlib.Core.List.{List, [], _∷_}
 use Prim.Native.Nat.{ℕ, _-_, _*_, _<_, _≤_}
 use native.Mathlib.Omega.{arith}
-use borrow.Author.Tests.{lt-ltb, le-ltb, le-leb, lt-leb}
+use borrow.Author.Tests.{lt-ltb, le-ltb, le-leb, lt-leb, leb-true, ltb-false}
 use lib.Dec.{ltb, leb}
 use lib.ListN.{length}
 use Rattle.indexed.proofs.Below.{first-below-le}
-use Rattle.answer.specs.Answer.{Answer, refusedFor}
+use Rattle.answer.specs.Answer.{Answer, delivered, refusedFor}
 use Rattle.answer.specs.declared.Reason.the-variants.{Length, Space, StrayBits}
+use Rattle.answer.proofs.Passed.{test-held, test-failed}
 use Rattle.record6250.specs.Fits.{Passes}
 use Rattle.record6250.specs.Group.{stray}
 use Rattle.record6250.specs.Read.{lengthsSuit, readGroup, readMap, firstStray, judgedAnswer, readAnswer}
+use Rattle.record6250.specs.Record.{mostData, groupsFor}
+use Rattle.record6250.specs.Written.{writeAnswer}
 
 module _ (backward : Bool) (words maps : List ℕ) where
   -- ---- lengths, space and stray bits
@@ -54,3 +57,22 @@ module _ (backward : Bool) (words maps : List ℕ) where
   pub passed : lengthsSuit (length words) (length maps) ≡ true → length maps ≤ firstStray backward words maps → Passes backward words maps
   unfolding firstStray
   passed suits h = record { lengths = suits; no-stray = omega (arith, first-below-le (length maps) (λ g. stray (readGroup backward words maps g) (readMap backward words maps g))) }
+
+  -- what is delivered has passed
+  pub delivered-passed : (space : ℕ) (figures : List ℕ) → readAnswer backward words maps space ≡ delivered figures
+      → Passes backward words maps × (7 * length maps - 1 ≤ space)
+  unfolding readAnswer
+  delivered-passed space figures e =
+      let lengths = test-held (lengthsSuit (length words) (length maps)) _ 1 0 figures e in
+      let enough = test-held (leb (7 * length maps - 1) space) _ 2 0 figures (lengths .1) in
+      let stray = test-failed (ltb (firstStray backward words maps) (length maps)) _ 3 _ figures (enough .1) in
+      (passed (lengths .0) (ltb-false _ _ (stray .0)), leb-true _ _ (enough .0))
+
+-- what a writer delivers has passed, and tells the number of groups
+pub written-passed : (size space : ℕ) (figures : List ℕ) → writeAnswer size space ≡ delivered figures
+    → (figures ≡ groupsFor size ∷ []) × (9 * groupsFor size ≤ space)
+unfolding writeAnswer
+written-passed size space figures e =
+    let enough = test-held (leb (9 * groupsFor size) space) (delivered (groupsFor size ∷ [])) 2 0 figures (test-held (leb size mostData) _ 1 0 figures e .1) in
+    let told : delivered (groupsFor size ∷ []) ≡ delivered figures = enough .1 in
+    (cc, leb-true _ _ (enough .0))

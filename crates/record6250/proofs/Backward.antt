@@ -2,12 +2,13 @@
 -- Assumes nothing.
 use mathlib.Core.Path.{_≡_, refl, sym, ap, ap₂, _∙_}
 use mathlib.Core.Bool.{Bool, true, false, cond, not}
-use mathlib.Core.List.{List, [], _∷_}
-use Prim.Native.Nat.{ℕ, _+_, _-_, _*_, _<_}
+use mathlib.Core.List.{List, [], _∷_, _++_, append-nil}
+use Prim.Native.Nat.{ℕ, _+_, _-_, _*_, _/_, _<_}
+use native.Mathlib.Omega.{arith}
 use borrow.Author.Tests.{ltb-true}
 use lib.Count.{ones}
 use lib.Dec.{leb, ltb}
-use lib.ListN.{length, getD}
+use lib.ListN.{length, getD, drop, length-append, length-drop, drop-of-length-le}
 use lib.Seq.{ext-getD}
 use Rattle.indexed.specs.List.{blocks, firstBelow, total, turnedPlace}
 use Rattle.indexed.proofs.Below.{first-below-same}
@@ -20,10 +21,11 @@ use Rattle.rectangular.specs.Correction.{Judgement}
 use Rattle.rectangular.specs.Correction.{changedMap}
 use Rattle.group_code.specs.Word.{forwardWord}
 use Rattle.record6250.specs.Group.{stray, judgedGroup, isCorrected, reasonOf, rightBytes, rightWords}
-use Rattle.record6250.specs.Picture.{groupRead, mapRead, pictureWords, pictureMaps}
+use Rattle.record6250.specs.Picture.{groupRead, mapRead, pictureWords, pictureMaps, turnedWords}
 use Rattle.record6250.specs.Read.{lengthsSuit, paddingSuits, unpadded, readGroup, readMap, judgement, changedTracks, firstStray, firstUnfit, readBody, readData, changes, judgedAnswer, readAnswer}
-use Rattle.record6250.proofs.Picture.{length-picture}
-use Rattle.record6250.proofs.Reading.{length-read}
+use Rattle.record6250.proofs.Answer.{length-refused}
+use Rattle.record6250.proofs.Picture.{length-picture, picture-twice, length-maps, maps-twice}
+use Rattle.record6250.proofs.Reading.{length-read, lengths-told}
 
 -- ---- two readings whose groups are alike are answered alike
 
@@ -96,8 +98,7 @@ module _ (backward : Bool) (words maps : List ℕ) where
   pictured = pictureMaps backward maps
 
   length-pictured : length pictured ≡ length maps
-  unfolding pictureMaps
-  length-pictured = length-tabulate (length maps) _
+  length-pictured = length-maps backward maps
 
   picture-group : (g : ℕ) → g < length maps → readGroup false picture pictured g ≡ readGroup backward words maps g
   unfolding readGroup groupRead forwardWord turnedPlace pictureWords
@@ -112,7 +113,7 @@ module _ (backward : Bool) (words maps : List ℕ) where
   picture-map g h = getD-tabulate (length maps) _ g 0 h
 
   -- the answer and the data of a reading are those of its forward picture
-  pub backward-as-forward : length words ≡ 9 * length maps → (space : ℕ)
+  backward-as-forward : length words ≡ 9 * length maps → (space : ℕ)
       → (readAnswer backward words maps space ≡ readAnswer false picture pictured space) × (readData backward words maps ≡ readData false picture pictured)
   unfolding readAnswer
   backward-as-forward long space = (
@@ -124,3 +125,69 @@ module _ (backward : Bool) (words maps : List ℕ) where
         (same-answer backward false words maps picture pictured length-pictured picture-group picture-map)),
     sym (same-data backward false words maps picture pictured length-pictured picture-group picture-map),
   )
+
+-- ---- a reading, and the same turned
+
+pub length-turned : (words : List ℕ) → length (turnedWords words) ≡ length words
+unfolding turnedWords
+length-turned words =
+    length-append (pictureWords true (length words / 9) words) (drop (9 * (length words / 9)) words)
+    ∙ omega (arith, length-picture true (length words / 9) words, length-drop (9 * (length words / 9)) words)
+
+pub turned-whole : (words : List ℕ) (n : ℕ) → length words ≡ 9 * n → turnedWords words ≡ pictureWords true n words
+unfolding turnedWords
+turned-whole words n long =
+    let groups : length words / 9 ≡ n = omega arith in
+    ap₂ _++_ (ap (λ (m : ℕ). pictureWords true m words) groups)
+    (drop-of-length-le words {i = 9 * (length words / 9)} (omega arith))
+    ∙ append-nil (pictureWords true n words)
+
+module _ (words maps : List ℕ) where
+  abbrev turnedMaps : List ℕ
+  turnedMaps = pictureMaps true maps
+
+  -- what is said of a reading that is turned: the same answer with any space, and the same data
+  abbrev Alike : Bool → Type 0
+  Alike backward =
+      ((space : ℕ) → readAnswer (not backward) (turnedWords words) turnedMaps space ≡ readAnswer backward words maps space)
+      × (readData (not backward) (turnedWords words) turnedMaps ≡ readData backward words maps)
+
+  module _ (long : length words ≡ 9 * length maps) where
+    turned-long : length (turnedWords words) ≡ 9 * length turnedMaps
+    turned-long = length-turned words ∙ long ∙ ap (λ (n : ℕ). 9 * n) (sym (length-maps true maps))
+
+    -- turned again, the words are as they were
+    again : pictureWords true (length turnedMaps) (turnedWords words) ≡ words
+    again =
+        ap₂ (pictureWords true) (length-maps true maps) (turned-whole words (length maps) long)
+        ∙ picture-twice words (length maps) long true
+
+    turned-alike : (backward : Bool) → Alike backward
+    turned-alike true = (
+      λ space. ap (λ (l : List ℕ). readAnswer false l turnedMaps space) (turned-whole words (length maps) long)
+          ∙ sym (backward-as-forward true words maps long space .0),
+      ap (λ (l : List ℕ). readData false l turnedMaps) (turned-whole words (length maps) long)
+          ∙ sym (backward-as-forward true words maps long 0 .1),
+    )
+    turned-alike false = (
+      λ space. backward-as-forward true (turnedWords words) turnedMaps turned-long space .0
+          ∙ ap₂ (λ (l m : List ℕ). readAnswer false l m space) again (maps-twice true maps),
+      backward-as-forward true (turnedWords words) turnedMaps turned-long 0 .1 ∙ ap₂ (readData false) again (maps-twice true maps),
+    )
+
+  -- whatever the lengths, the answer is the same; and so are the data, if the lengths suit
+  pub turned-answer : (backward : Bool) (space : ℕ)
+      → readAnswer (not backward) (turnedWords words) turnedMaps space ≡ readAnswer backward words maps space
+  turned-answer backward space = by (lengthsSuit (length words) (length maps)) refl
+    where
+      by : (b : Bool) → lengthsSuit (length words) (length maps) ≡ b
+          → readAnswer (not backward) (turnedWords words) turnedMaps space ≡ readAnswer backward words maps space
+      by true e = turned-alike (lengths-told (length words) (length maps) e .2) backward .0 space
+      by false e =
+          length-refused (not backward) (turnedWords words) turnedMaps space
+          (ap₂ lengthsSuit (length-turned words) (length-maps true maps) ∙ e)
+          ∙ sym (length-refused backward words maps space e)
+
+  pub turned-data : (backward : Bool) → lengthsSuit (length words) (length maps) ≡ true
+      → readData (not backward) (turnedWords words) turnedMaps ≡ readData backward words maps
+  turned-data backward e = turned-alike (lengths-told (length words) (length maps) e .2) backward .1

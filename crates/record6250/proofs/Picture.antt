@@ -12,7 +12,7 @@ use Rattle.indexed.proofs.Blocks.{length-blocks, blocks-same, getD-blocks, join
 use Rattle.indexed.proofs.Tabulate.{length-tabulate, getD-tabulate, tabulate-same}
 use Rattle.group_code.specs.Word.{forwardWord}
 use Rattle.group_code.proofs.Words.{reversed-twice}
-use Rattle.record6250.specs.Picture.{groupRead, pictureWords}
+use Rattle.record6250.specs.Picture.{groupRead, mapRead, pictureWords, pictureMaps}
 use Rattle.record6250.proofs.Reading.{length-read}
 use Rattle.indexed.proofs.Turned.{turned-lt, turned-twice}
 
@@ -49,3 +49,19 @@ module _ (words : List ℕ) (n : ℕ) (long : length words ≡ 9 * n) where
       ∙ ap (λ (j : ℕ). getD words (9 * j + k) 0) (turned-twice backward n g h))
       ∙ nine-cut g h)
       ∙ join-cuts 9 n words long
+
+-- ---- the pointer maps
+
+pub length-maps : (backward : Bool) (maps : List ℕ) → length (pictureMaps backward maps) ≡ length maps
+unfolding pictureMaps
+length-maps backward maps = length-tabulate (length maps) _
+
+pub maps-twice : (backward : Bool) (maps : List ℕ) → pictureMaps backward (pictureMaps backward maps) ≡ maps
+unfolding pictureMaps mapRead
+maps-twice backward maps =
+    ext-getD 0 _ _ (length-maps backward (pictureMaps backward maps) ∙ length-maps backward maps)
+    (λ g h. let b : g < length maps = omega (arith, length-maps backward (pictureMaps backward maps), length-maps backward maps) in
+    getD-tabulate (length (pictureMaps backward maps)) _ g 0 (omega (arith, length-maps backward maps))
+    ∙ ap (λ (n : ℕ). getD (pictureMaps backward maps) (turnedPlace backward n g) 0) (length-maps backward maps)
+    ∙ getD-tabulate (length maps) _ (turnedPlace backward (length maps) g) 0 (turned-lt backward (length maps) g b)
+    ∙ ap (λ (k : ℕ). getD maps k 0) (turned-twice backward (length maps) g b))

@@ -1,22 +1,22 @@
--- A reading of a written record without damage, forward or backward, fits with no word changed; and a reading with no word changed
--- is without damage (the notice, second term).
+-- A written record that is read forward without damage is delivered with its data and no word changed, so it has one list of data; and
+-- a reading with no word changed is without damage (the notice, second term).
 -- Assumes nothing.
 use mathlib.Core.Path.{_≡_, refl, sym, ap, ap₂, subst, _∙_}
 use mathlib.Core.Bool.{Bool, true, false, _&&_, _||_}
 use mathlib.Core.List.{List, [], _∷_}
 use mathlib.Core.Logic.{inl}
-use Prim.Native.Nat.{ℕ, _*_, _<_}
+use Prim.Native.Nat.{ℕ, _-_, _*_, _<_, _≤_}
+use native.Mathlib.Nat.{le-of-eq}
 use native.Mathlib.Omega.{arith}
 use borrow.Author.Tests.{lt-ltb, le-ltb, le-leb, eq-eqb}
 use lib.Dec.{ltb}
-use lib.ListN.{length, getD, take, drop, replicate, length-replicate, getD-replicate}
+use lib.ListN.{length, getD, replicate, length-replicate, getD-replicate}
 use lib.Seq.{ext-getD}
 use Rattle.answer.specs.Answer.{delivered}
 use Rattle.indexed.specs.List.{tabulate, tabulateFrom, below, keep, firstBelow, turnedPlace}
 use Rattle.indexed.proofs.Differ.{differences-none, equal-of-no-differences}
 use Rattle.indexed.proofs.Tabulate.{tabulate-same}
 use Rattle.register.specs.Bit.{bit, ofBits}
-use Rattle.indexed.proofs.Blocks.{cut-blocks}
 use Rattle.group_code.specs.Word.{illegality}
 use Rattle.group_code.proofs.Words.{word-lt, word-legal}
 use Rattle.rectangular.specs.Constants.{feedback}
@@ -25,18 +25,17 @@ use Rattle.rectangular.specs.Group.{track}
 use Rattle.rectangular.proofs.Equations.{Below}
 use Rattle.record6250.specs.Fits.{IsData, Passes, FitsGroup, Fits, wordsChanged}
 use Rattle.record6250.specs.Group.{illegalMap, pointed, stray}
-use Rattle.record6250.specs.Picture.{groupRead, mapRead, pictureWords}
-use Rattle.record6250.specs.Read.{readGroup, readMap, lengthsSuit, firstStray, judgedAnswer}
-use Rattle.record6250.specs.Record.{body, groupsFor, groupBytes, groupWords, firstGroups, writtenRecord}
+use Rattle.record6250.specs.Picture.{mapRead, pictureWords}
+use Rattle.record6250.specs.Read.{readGroup, readMap, lengthsSuit, firstStray, readData, readAnswer}
+use Rattle.record6250.specs.Record.{body, groupsFor, groupBytes, groupWords, writtenRecord}
 use Rattle.indexed.proofs.Below.{first-below-none}
+use Rattle.record6250.proofs.Answer.{all-passed}
 use Rattle.record6250.proofs.Fitting.{fits-delivered}
 use Rattle.record6250.proofs.FittingGroup.{group-word, tracks-group}
 use Rattle.record6250.proofs.Padding.{body-below}
-use Rattle.record6250.proofs.Picture.{length-picture, picture-forward, picture-twice}
-use Rattle.record6250.proofs.Reading.{length-read, groupBytes-bounded, written-group}
+use Rattle.record6250.proofs.Picture.{length-picture, picture-forward}
+use Rattle.record6250.proofs.Reading.{groupBytes-bounded, written-group}
 use Rattle.record6250.proofs.Record.{length-record}
-use Rattle.record6250.proofs.Record.{length-groupWords}
-use Rattle.indexed.proofs.Turned.{turned-lt}
 
 -- ---- the words of a group as they are written: legal, of ten bits
 
@@ -69,106 +68,82 @@ unfolding Allowed pointedTracks keep below tabulate tabulateFrom bit
 itself-allowed pointers v e =
     inl (ap (λ (p : ℕ). length (pointedTracks 9 p)) e, omega (arith, differences-none v v 9 (λ k h. refl)))
 
--- ---- a reading without damage
-
-module _ (backward : Bool) (words maps bytes : List ℕ) (is-data : IsData bytes) (as-many : groupsFor (length bytes) ≡ length maps)
-    (same : pictureWords backward (length maps) words ≡ writtenRecord bytes)
-    (unpointed : (g : ℕ) → g < length maps → readMap backward words maps g ≡ 0) where
-  info-below : (g : ℕ) → Below 8 (groupBytes g (body bytes))
-  info-below = groupBytes-bounded 256 (body bytes) (body-below bytes (is-data .are-bytes))
-
-  group-same : (g : ℕ) → g < length maps → readGroup backward words maps g ≡ groupWords (groupBytes g (body bytes))
-  unfolding readGroup pictureWords writtenRecord firstGroups
-  group-same g h =
-      sym (cut-blocks 9 (length maps) (groupRead backward (length maps) words) (λ g h. length-read backward (length maps) words g) g h)
-      ∙ ap (λ (l : List ℕ). take 9 (drop (9 * g) l)) same
-      ∙ cut-blocks 9 _ (λ g. groupWords (groupBytes g (body bytes))) (λ g h. length-groupWords (groupBytes g (body bytes))) g
-      (omega (arith, as-many))
-
-  group-unpointed : (g : ℕ) → g < length maps → pointed (readGroup backward words maps g) (readMap backward words maps g) ≡ 0
-  group-unpointed g h = ap₂ pointed (group-same g h) (unpointed g h) ∙ written-unpointed (groupBytes g (body bytes)) (info-below g)
-
-  pub undamaged-fits : Fits backward words maps bytes
-  unfolding FitsGroup
-  undamaged-fits = record {
-    are-data = is-data;
-    as-many = as-many;
-    each = λ g h. subst (FitsGroup backward words maps g) (group-same g h ∙ sym (written-group bytes (length maps) g (omega (arith, as-many))))
-        (itself-allowed _ (λ k. getD (readGroup backward words maps g) k 0) (group-unpointed g h));
-  }
-
-  pub undamaged-unchanged : wordsChanged backward words maps bytes ≡ 0
-  unfolding wordsChanged
-  undamaged-unchanged = differences-none _ _ (9 * length maps) (λ k h. ap (λ (l : List ℕ). getD l k 0) same)
-
-  module _ (long : length words ≡ 9 * length maps) where
-    pub undamaged-passes : Passes backward words maps
-    unfolding lengthsSuit firstStray groupsFor
-    undamaged-passes = record {
-      lengths =
-          ap₂ _&&_
-          (ap₂ _&&_ (lt-ltb 0 (length maps) (omega (arith, as-many))) (le-leb (length maps) 586 (omega (arith, as-many, is-data .within))))
-          (eq-eqb (length words) (9 * length maps) long);
-      no-stray =
-          first-below-none (length maps) _
-          (λ g h. ap₂ stray (group-same g h) (unpointed g h) ∙ written-not-stray (groupBytes g (body bytes)) (info-below g));
-    }
-
-    pub undamaged-delivered : judgedAnswer backward words maps ≡ delivered (length bytes ∷ 0 ∷ [])
-    undamaged-delivered =
-        fits-delivered backward words maps undamaged-passes bytes undamaged-fits .0
-        ∙ ap (λ (n : ℕ). delivered (length bytes ∷ n ∷ [])) undamaged-unchanged
+-- ---- the written record, read forward without damage
 
 -- no track is pointed by the drive
 abbrev pub noPointers : List ℕ → List ℕ
 noPointers bytes = replicate (groupsFor (length bytes)) 0
 
--- what is said of a reading of these data without damage
-abbrev pub ReadBack : Bool → List ℕ → List ℕ → Type 0
-ReadBack backward words bytes =
-    Passes backward words (noPointers bytes) × Fits backward words (noPointers bytes) bytes
-    × (wordsChanged backward words (noPointers bytes) bytes ≡ 0)
-    × (judgedAnswer backward words (noPointers bytes) ≡ delivered (length bytes ∷ 0 ∷ []))
+module _ (bytes : List ℕ) (is-data : IsData bytes) where
+  abbrev words : List ℕ
+  words = writtenRecord bytes
 
-pub undamaged : (backward : Bool) (words bytes : List ℕ) → IsData bytes → length words ≡ 9 * groupsFor (length bytes)
-    → pictureWords backward (groupsFor (length bytes)) words ≡ writtenRecord bytes → ReadBack backward words bytes
-unfolding readMap mapRead
-undamaged backward words bytes is-data long same = (
-  undamaged-passes backward words maps bytes is-data (sym many) picture unpointed whole,
-  undamaged-fits backward words maps bytes is-data (sym many) picture unpointed,
-  undamaged-unchanged backward words maps bytes is-data (sym many) picture unpointed,
-  undamaged-delivered backward words maps bytes is-data (sym many) picture unpointed whole,
-)
-  where
-    maps : List ℕ
-    maps = noPointers bytes
+  abbrev maps : List ℕ
+  maps = noPointers bytes
 
-    many : length maps ≡ groupsFor (length bytes)
-    many = length-replicate (groupsFor (length bytes)) 0
+  many : length maps ≡ groupsFor (length bytes)
+  many = length-replicate (groupsFor (length bytes)) 0
 
-    picture : pictureWords backward (length maps) words ≡ writtenRecord bytes
-    picture = ap (λ (n : ℕ). pictureWords backward n words) many ∙ same
+  long : length words ≡ 9 * length maps
+  long = length-record bytes ∙ ap (λ (n : ℕ). 9 * n) (sym many)
 
-    unpointed : (g : ℕ) → g < length maps → readMap backward words maps g ≡ 0
-    unpointed g h =
-        getD-replicate (groupsFor (length bytes)) (turnedPlace backward (length maps) g) 0 0
-        (omega (arith, many, turned-lt backward (length maps) g h))
+  info-below : (g : ℕ) → Below 8 (groupBytes g (body bytes))
+  info-below = groupBytes-bounded 256 (body bytes) (body-below bytes (is-data .are-bytes))
 
-    whole : length words ≡ 9 * length maps
-    whole = omega (arith, many)
+  group-same : (g : ℕ) → g < length maps → readGroup false words maps g ≡ groupWords (groupBytes g (body bytes))
+  unfolding readGroup
+  group-same g h = written-group bytes (length maps) g (omega (arith, many))
 
--- the written record as it stands, and as it passes the head backward
-pub undamaged-forward : (bytes : List ℕ) → IsData bytes → ReadBack false (writtenRecord bytes) bytes
-undamaged-forward bytes is-data =
-    undamaged false (writtenRecord bytes) bytes is-data (length-record bytes)
-    (picture-forward (writtenRecord bytes) (groupsFor (length bytes)) (length-record bytes))
+  unpointed : (g : ℕ) → g < length maps → readMap false words maps g ≡ 0
+  unfolding readMap mapRead turnedPlace
+  unpointed g h = getD-replicate (groupsFor (length bytes)) g 0 0 (omega (arith, many))
 
-pub undamaged-backward : (bytes : List ℕ) → IsData bytes
-    → ReadBack true (pictureWords true (groupsFor (length bytes)) (writtenRecord bytes)) bytes
-undamaged-backward bytes is-data =
-    undamaged true (pictureWords true (groupsFor (length bytes)) (writtenRecord bytes)) bytes is-data
-    (length-picture true (groupsFor (length bytes)) (writtenRecord bytes))
-    (picture-twice (writtenRecord bytes) (groupsFor (length bytes)) (length-record bytes) true)
+  group-unpointed : (g : ℕ) → g < length maps → pointed (readGroup false words maps g) (readMap false words maps g) ≡ 0
+  group-unpointed g h = ap₂ pointed (group-same g h) (unpointed g h) ∙ written-unpointed (groupBytes g (body bytes)) (info-below g)
+
+  itself-fits : Fits false words maps bytes
+  unfolding FitsGroup
+  itself-fits = record {
+    are-data = is-data;
+    as-many = sym many;
+    each = λ g h. subst (FitsGroup false words maps g) (group-same g h ∙ sym (written-group bytes (length maps) g (omega (arith, many))))
+        (itself-allowed _ (λ k. getD (readGroup false words maps g) k 0) (group-unpointed g h));
+  }
+
+  none-changed : wordsChanged false words maps bytes ≡ 0
+  unfolding wordsChanged
+  none-changed =
+      differences-none _ _ (9 * length maps) (λ k h. ap (λ (l : List ℕ). getD l k 0) (picture-forward words (length maps) long))
+
+  passes : Passes false words maps
+  unfolding lengthsSuit firstStray groupsFor
+  passes = record {
+    lengths =
+        ap₂ _&&_
+        (ap₂ _&&_ (lt-ltb 0 (length maps) (omega (arith, many))) (le-leb (length maps) 586 (omega (arith, many, is-data .within))))
+        (eq-eqb (length words) (9 * length maps) long);
+    no-stray =
+        first-below-none (length maps) _
+        (λ g h. ap₂ stray (group-same g h) (unpointed g h) ∙ written-not-stray (groupBytes g (body bytes)) (info-below g));
+  }
+
+  pub undamaged-data : readData false words maps ≡ bytes
+  undamaged-data = fits-delivered false words maps passes bytes itself-fits .1
+
+  pub undamaged-answer : (space : ℕ) → 7 * length maps - 1 ≤ space → readAnswer false words maps space ≡ delivered (length bytes ∷ 0 ∷ [])
+  undamaged-answer space enough =
+      all-passed false words maps space (passes .lengths) enough (le-of-eq (sym (passes .no-stray)))
+      ∙ fits-delivered false words maps passes bytes itself-fits .0
+      ∙ ap (λ (n : ℕ). delivered (length bytes ∷ n ∷ [])) none-changed
+
+-- a written record has one list of data: they are read from it
+pub one-data : (bytes others : List ℕ) → IsData bytes → IsData others → writtenRecord bytes ≡ writtenRecord others → bytes ≡ others
+one-data bytes others d e same =
+    let groups : groupsFor (length bytes) ≡ groupsFor (length others) =
+    omega (arith, ap length same, length-record bytes, length-record others) in
+    sym (undamaged-data bytes d)
+    ∙ ap₂ (λ (l : List ℕ) (n : ℕ). readData false l (replicate n 0)) same groups
+    ∙ undamaged-data others e
 
 -- ---- and back
 

@@ -1,10 +1,10 @@
 -- A 6250 reading and its forward picture (document 01, "The 6250 record" and "Backward"): nine words a group, tracks 0 to 8, and a
 -- pointer map a group, bit i for track i. Backward, groups and maps come last first, and each word's ten bits are reversed.
 -- Assumes nothing.
-use Prim.Native.Nat.{ℕ, _+_, _*_}
-use mathlib.Core.Bool.{Bool}
-use mathlib.Core.List.{List}
-use lib.ListN.{length, getD}
+use Prim.Native.Nat.{ℕ, _+_, _*_, _/_}
+use mathlib.Core.Bool.{Bool, true}
+use mathlib.Core.List.{List, _++_}
+use lib.ListN.{length, getD, drop}
 use Rattle.indexed.specs.List.{tabulate, blocks, turnedPlace}
 use Rattle.group_code.specs.Word.{forwardWord}
 
@@ -23,3 +23,7 @@ pictureWords backward groups words = blocks groups (groupRead backward groups wo
 
 unfoldable pub pictureMaps : Bool → List ℕ → List ℕ
 pictureMaps backward maps = tabulate (length maps) (mapRead backward (length maps) maps)
+
+-- words as they pass the head the other way. Where they are not nine a group, which is refused, what is left over stays behind.
+unfoldable pub turnedWords : List ℕ → List ℕ
+turnedWords words = pictureWords true (length words / 9) words ++ drop (9 * (length words / 9)) words

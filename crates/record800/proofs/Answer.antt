@@ -1,19 +1,22 @@
--- The answer of a reading, check by check.
+-- The answer of a reading, check by check; and what a delivery says of the checks, in reading and in writing.
 -- Assumes nothing.
 use mathlib.Core.Path.{_≡_, ap, _∙_}
-use mathlib.Core.Bool.{Bool, true, false, cond}
-use mathlib.Core.List.{List}
-use Prim.Native.Nat.{ℕ, _-_, _<_, _≤_}
+use mathlib.Core.Bool.{Bool, true, false, cond, _&&_}
+use mathlib.Core.List.{List, [], _∷_}
+use Prim.Native.Nat.{ℕ, _+_, _-_, _<_, _≤_}
 use native.Mathlib.Omega.{arith}
-use borrow.Author.Tests.{lt-ltb, le-ltb, le-leb, lt-leb}
+use borrow.Author.Tests.{lt-ltb, le-ltb, le-leb, lt-leb, leb-true, ltb-false}
 use lib.Dec.{leb, ltb}
 use lib.ListN.{length}
 use Rattle.indexed.proofs.First.{first-le}
 use Rattle.indexed.proofs.Tabulate.{length-tabulate}
-use Rattle.answer.specs.Answer.{Answer, refused, refusedFor, firstAbove}
+use Rattle.answer.specs.Answer.{Answer, delivered, refused, refusedFor, firstAbove}
 use Rattle.answer.specs.declared.Reason.the-variants.{StrayBits}
+use Rattle.answer.proofs.Passed.{test-held, test-failed}
 use Rattle.record800.specs.Fits.{Passes}
 use Rattle.record800.specs.Read.{picture, judgedAnswer, judgedData, lengthSuits, firstStray, readAnswer}
+use Rattle.record800.specs.Record.{mostData}
+use Rattle.record800.specs.Written.{writeAnswer}
 use Rattle.record800.proofs.Picture.{length-picture}
 
 module _ (backward : Bool) (characters : List ℕ) (space : ℕ) where
@@ -58,6 +61,25 @@ passed backward characters suits h = record {
   lengths = suits;
   no-stray = omega (arith, first-le (λ v. ltb 511 v) (picture backward characters), length-picture backward characters);
 }
+
+-- what is delivered has passed
+pub delivered-passed : (backward : Bool) (characters : List ℕ) (space : ℕ) (figures : List ℕ)
+    → readAnswer backward characters space ≡ delivered figures → Passes backward characters × (length characters - 2 ≤ space)
+unfolding readAnswer
+delivered-passed backward characters space figures e =
+    let lengths = test-held (lengthSuits (length characters)) _ 1 0 figures e in
+    let enough = test-held (leb (length characters - 2) space) _ 2 0 figures (lengths .1) in
+    let stray = test-failed (ltb (firstStray backward characters) (length characters)) _ 3 _ figures (enough .1) in
+    (passed backward characters (lengths .0) (ltb-false _ _ (stray .0)), leb-true _ _ (enough .0))
+
+-- what a writer delivers has passed, and tells the number of characters
+pub written-passed : (size space : ℕ) (figures : List ℕ) → writeAnswer size space ≡ delivered figures
+    → (figures ≡ (size + 2) ∷ []) × (size + 2 ≤ space)
+unfolding writeAnswer
+written-passed size space figures e =
+    let enough = test-held (leb (size + 2) space) (delivered ((size + 2) ∷ [])) 2 0 figures (test-held (leb 1 size && leb size mostData) _ 1 0 figures e .1) in
+    let told : delivered ((size + 2) ∷ []) ≡ delivered figures = enough .1 in
+    (cc, leb-true _ _ (enough .0))
 
 pub length-data : (n : ℕ) (l : List ℕ) → length (judgedData n l) ≡ n
 unfolding judgedData

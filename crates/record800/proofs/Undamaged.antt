@@ -1,10 +1,11 @@
--- A reading of a written record without damage, forward or backward, fits with no character changed, and is delivered; and a reading
--- with no character changed is without damage (the notice, second term).
+-- A written record that is read forward without damage is delivered with its data and no character changed, so it has one list of data;
+-- and a reading with no character changed is without damage (the notice, second term).
 -- Assumes nothing.
 use mathlib.Core.Path.{_≡_, sym, ap, ap₂, _∙_}
 use mathlib.Core.Bool.{Bool, true, false, _&&_}
 use mathlib.Core.List.{List, [], _∷_}
-use Prim.Native.Nat.{ℕ, _+_, _-_}
+use Prim.Native.Nat.{ℕ, _+_, _-_, _≤_}
+use native.Mathlib.Nat.{le-of-eq}
 use native.Mathlib.Omega.{arith}
 use borrow.Author.Tests.{le-leb, le-ltb}
 use lib.Bits.{xor-self}
@@ -17,50 +18,47 @@ use Rattle.indexed.proofs.First.{first-none}
 use Rattle.register.specs.Bit.{bit}
 use Rattle.register.specs.Parity.{parity}
 use Rattle.register.specs.Xor.{_⊕_}
-use Rattle.record800.specs.Fits.{IsData, Passes, Fits, trackChanged, charactersChanged}
-use Rattle.record800.specs.Read.{picture, expectedParity, wrong, wrongCount, judgedAnswer, readData, lengthSuits, firstStray}
+use Rattle.record800.specs.Fits.{IsData, Passes, Fits, charactersChanged}
+use Rattle.record800.specs.Read.{picture, expectedParity, wrong, wrongCount, judgedAnswer, readData, readAnswer, lengthSuits, firstStray}
 use Rattle.record800.specs.Record.{writtenRecord}
+use Rattle.record800.proofs.Answer.{all-passed}
 use Rattle.record800.proofs.Candidate.{total-of-zeros}
-use Rattle.record800.proofs.Fitting.{fits-candidate, nothing-changed, fits-delivered, delivered-fits}
+use Rattle.record800.proofs.Fitting.{fits-candidate, fits-delivered, delivered-fits}
 use Rattle.record800.proofs.Recorded.{length-record, record-lt, record-parity}
 use Rattle.record800.proofs.Judged.{Judged, clean, one, several, none, judged}
-use Rattle.record800.proofs.Picture.{length-picture, picture-forward, picture-twice}
+use Rattle.record800.proofs.Picture.{length-picture, picture-forward}
 
--- what is said of a reading of these data without damage: it passes, they fit and nothing else does, nothing was changed, and they are
--- delivered
-abbrev pub ReadBack : Bool → List ℕ → List ℕ → Type 0
-ReadBack backward characters bytes =
-    Passes backward characters × Fits backward characters bytes × ((others : List ℕ) → Fits backward characters others → others ≡ bytes)
-    × (trackChanged backward characters bytes ≡ 9) × (charactersChanged backward characters bytes ≡ 0)
-    × (judgedAnswer (length characters - 2) (picture backward characters) ≡ delivered (length bytes ∷ 9 ∷ 0 ∷ []))
-    × (readData backward characters ≡ bytes)
+-- ---- the written record, read forward without damage
 
-module _ (backward : Bool) (characters bytes : List ℕ) (is-data : IsData bytes) (same : picture backward characters ≡ writtenRecord bytes) where
+module _ (bytes : List ℕ) (is-data : IsData bytes) where
+  abbrev characters : List ℕ
+  characters = writtenRecord bytes
+
   abbrev n : ℕ
   n = length characters - 2
 
   abbrev l : List ℕ
-  l = picture backward characters
+  l = picture false characters
 
   long : length characters ≡ length bytes + 2
-  long = sym (length-picture backward characters) ∙ ap length same ∙ length-record bytes
+  long = length-record bytes
 
-  character : (k : ℕ) → getD l k 0 ≡ getD (writtenRecord bytes) k 0
-  character k = ap (λ (r : List ℕ). getD r k 0) same
+  character : (k : ℕ) → getD l k 0 ≡ getD characters k 0
+  character k = ap (λ (r : List ℕ). getD r k 0) (picture-forward characters)
 
-  undamaged-passes : Passes backward characters
+  passes : Passes false characters
   unfolding lengthSuits firstStray firstAbove
-  undamaged-passes = record {
+  passes = record {
     lengths =
         ap₂ _&&_ (le-leb 3 (length characters) (omega (arith, long, is-data .some)))
         (le-leb (length characters) 2050 (omega (arith, long, is-data .within)));
     no-stray =
-        first-none (λ v. ltb 511 v) l (length characters) (sym (length-picture backward characters))
+        first-none (λ v. ltb 511 v) l (length characters) (sym (length-picture false characters))
         (λ k h. le-ltb 511 (getD l k 0) (omega (arith, character k, record-lt bytes (is-data .are-bytes) k)));
   }
 
-  undamaged-fits : Fits backward characters bytes
-  undamaged-fits = record {
+  itself-fits : Fits false characters bytes
+  itself-fits = record {
     are-data = is-data;
     as-long = sym long;
     track = 0;
@@ -79,41 +77,31 @@ module _ (backward : Bool) (characters bytes : List ℕ) (is-data : IsData bytes
       ∙ ap (λ (m : ℕ). expectedParity m l k) many)
       ∙ xor-self (expectedParity n l k))
 
-  undamaged-delivered : judgedAnswer n l ≡ delivered (length bytes ∷ 9 ∷ 0 ∷ [])
-  undamaged-delivered = by (judged n l)
+  delivered-clean : judgedAnswer n l ≡ delivered (length bytes ∷ 9 ∷ 0 ∷ [])
+  delivered-clean = by (judged n l)
     where
       by : Judged n l (judgedAnswer n l) → judgedAnswer n l ≡ delivered (length bytes ∷ 9 ∷ 0 ∷ [])
       by (clean w h a) = let many : n ≡ length bytes = omega (arith, long) in a ∙ ap (λ (m : ℕ). delivered (m ∷ 9 ∷ 0 ∷ [])) many
       by (one some j b h alone a) = absurd (omega (arith, none-wrong))
       by (several some i j h b r q a) = absurd (omega (arith, none-wrong))
       by (none nothing a) =
-          absurd (nothing (undamaged-fits .track) (undamaged-fits .is-track)
-          (fits-candidate backward characters undamaged-passes bytes undamaged-fits .1))
+          absurd (nothing (itself-fits .track) (itself-fits .is-track) (fits-candidate false characters passes bytes itself-fits .1))
 
-  undamaged-only : (others : List ℕ) → Fits backward characters others → others ≡ bytes
-  undamaged-only others f =
-      let d = delivered-fits backward characters undamaged-passes _ undamaged-delivered in
-      d .2 others f ∙ sym (d .2 bytes undamaged-fits)
+  only-itself : (others : List ℕ) → Fits false characters others → others ≡ bytes
+  only-itself others f =
+      let d = delivered-fits false characters passes _ delivered-clean in
+      d .2 others f ∙ sym (d .2 bytes itself-fits)
 
-  pub undamaged : ReadBack backward characters bytes
-  undamaged =
-      let unchanged = nothing-changed backward characters undamaged-passes bytes undamaged-fits none-wrong in (
-        undamaged-passes,
-        undamaged-fits,
-        undamaged-only,
-        unchanged .0,
-        unchanged .1,
-        undamaged-delivered,
-        fits-delivered backward characters undamaged-passes bytes undamaged-fits undamaged-only .1,
-      )
+  pub undamaged-data : readData false characters ≡ bytes
+  undamaged-data = fits-delivered false characters passes bytes itself-fits only-itself .1
 
--- the written record as it stands, and as it passes the head backward
-pub undamaged-forward : (bytes : List ℕ) → IsData bytes → ReadBack false (writtenRecord bytes) bytes
-undamaged-forward bytes is-data = undamaged false (writtenRecord bytes) bytes is-data (picture-forward (writtenRecord bytes))
+  pub undamaged-answer : (space : ℕ) → length characters - 2 ≤ space → readAnswer false characters space ≡ delivered (length bytes ∷ 9 ∷ 0 ∷ [])
+  undamaged-answer space enough =
+      all-passed false characters space (passes .lengths) enough (le-of-eq (sym (passes .no-stray))) ∙ delivered-clean
 
-pub undamaged-backward : (bytes : List ℕ) → IsData bytes → ReadBack true (picture true (writtenRecord bytes)) bytes
-undamaged-backward bytes is-data =
-    undamaged true (picture true (writtenRecord bytes)) bytes is-data (picture-twice true (writtenRecord bytes))
+-- a written record has one list of data: they are read from it
+pub one-data : (bytes others : List ℕ) → IsData bytes → IsData others → writtenRecord bytes ≡ writtenRecord others → bytes ≡ others
+one-data bytes others d e same = sym (undamaged-data bytes d) ∙ ap (readData false) same ∙ undamaged-data others e
 
 -- ---- and back
 

@@ -1,2 +1,5 @@
+pub mod Third
+pub mod Second
+pub mod First
 pub mod Terms
 pub mod Starred

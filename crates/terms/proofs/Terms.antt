@@ -1,53 +1,52 @@
--- The notice's third term holds, for every reading that passes the first three rows.
+-- The notice's three terms hold of every call whose answer and output are those that its definitions give: what each contract states.
 -- Assumes nothing.
-use mathlib.Core.Path.{_≡_, sym, _∙_}
-use mathlib.Core.Bool.{Bool}
-use mathlib.Core.List.{List}
-use Prim.Native.Nat.{ℕ, _-_, _*_, _≤_}
-use native.Mathlib.Nat.{le-of-eq}
+use mathlib.Core.List.{List, []}
+use mathlib.Core.Path.{_≡_, refl}
+use Prim.Native.Nat.{ℕ}
 use lib.ListN.{length}
-use Rattle.record6250.specs.Fits as six
-use Rattle.record6250.specs.Read.{readAnswer, readData, judgedAnswer}
-use Rattle.record6250.proofs.Answer.{all-passed}
-use Rattle.record6250.proofs.Fitting.{fits-delivered, delivered-fits, only-one}
-use Rattle.record800.specs.Fits as eight
-use Rattle.record800.specs.Read as eightRead
-use Rattle.record800.proofs.Answer as eightAnswer
-use Rattle.record800.proofs.Fitting as eightFitting
-use Rattle.terms.specs.Terms.{Reading, at6250, at800, Passes, Fits, told, answer, result, ThirdTerm}
+use Rattle.answer.specs.Answer.{Answer, outputAfter}
+use Rattle.terms.specs.Call.{Call, write, read, wordsToPhysical, wordsToAlgebraic, mapToPhysical, mapToAlgebraic, answerTo, resultOf}
+use Rattle.terms.specs.Terms.{SecondTerm, ThirdTerm, Terms}
+use Rattle.terms.proofs.First.{ends}
+use Rattle.terms.proofs.Second.{writes, reads}
+use Rattle.terms.proofs.Third.{decides}
 
-module _ (backward : Bool) (words maps : List ℕ) (space : ℕ) (passes : six.Passes backward words maps) (enough : 7 * length maps - 1 ≤ space) where
-  judged : readAnswer backward words maps space ≡ judgedAnswer backward words maps
-  judged = all-passed backward words maps space (passes .lengths) enough (le-of-eq (sym (passes .no-stray)))
+module _ (answer : Answer) (before after : List ℕ) where
+  second-term : (call : Call) → answer ≡ answerTo call (length before) → after ≡ outputAfter answer (resultOf call) before
+      → SecondTerm call answer before after
+  unfolding SecondTerm answerTo resultOf
+  second-term (write d bytes) answers stores = writes d bytes answer before after answers stores
+  second-term (read r) answers stores = reads r answer before after answers stores
+  second-term (wordsToPhysical source) answers stores = tt
+  second-term (wordsToAlgebraic source) answers stores = tt
+  second-term (mapToPhysical m) answers stores = tt
+  second-term (mapToAlgebraic m) answers stores = tt
 
-  third-6250 : ThirdTerm (at6250 backward words maps) space
-  unfolding Fits told answer result
-  third-6250 = record {
-    delivered-if-one = λ bytes one.
-        let d = fits-delivered backward words maps passes bytes (one .fits) in (judged ∙ d .0, d .1);
-    one-if-delivered = λ values e.
-        let f = delivered-fits backward words maps passes values (sym judged ∙ e) in (
-          readData backward words maps,
-          record { fits = f; only = λ others g. only-one backward words maps passes others (readData backward words maps) g f },
-        );
+  third-term : (call : Call) → answer ≡ answerTo call (length before) → after ≡ outputAfter answer (resultOf call) before
+      → ThirdTerm call answer before after
+  unfolding ThirdTerm answerTo resultOf
+  third-term (write d bytes) answers stores = tt
+  third-term (read r) answers stores = decides r answer before after answers stores
+  third-term (wordsToPhysical source) answers stores = tt
+  third-term (wordsToAlgebraic source) answers stores = tt
+  third-term (mapToPhysical m) answers stores = tt
+  third-term (mapToAlgebraic m) answers stores = tt
+
+  pub terms-hold : (call : Call) → answer ≡ answerTo call (length before) → after ≡ outputAfter answer (resultOf call) before
+      → Terms call answer before after
+  terms-hold call answers stores = record {
+    first = ends call answer before after answers stores;
+    second = second-term call answers stores;
+    third = third-term call answers stores;
   }
 
-module _ (backward : Bool) (characters : List ℕ) (space : ℕ) (passes : eight.Passes backward characters) (enough : length characters - 2 ≤ space) where
-  judged-800 : eightRead.readAnswer backward characters space ≡ eightRead.judgedAnswer (length characters - 2) (eightRead.picture backward characters)
-  judged-800 = eightAnswer.all-passed backward characters space (passes .lengths) enough (le-of-eq (sym (passes .no-stray)))
+  -- as a contract has them: the answer, the output, and the terms
+  pub with-terms : (call : Call) → answer ≡ answerTo call (length before) → after ≡ outputAfter answer (resultOf call) before
+      → (answer ≡ answerTo call (length before)) × ((after ≡ outputAfter answer (resultOf call) before) × Terms call answer before after)
+  with-terms call answers stores = (answers, (stores, terms-hold call answers stores))
 
-  third-800 : ThirdTerm (at800 backward characters) space
-  unfolding Fits told answer result
-  third-800 = record {
-    delivered-if-one = λ bytes one.
-        let d = eightFitting.fits-delivered backward characters passes bytes (one .fits) (one .only) in (judged-800 ∙ d .0, d .1);
-    one-if-delivered = λ values e.
-        let f = eightFitting.delivered-fits backward characters passes values (sym judged-800 ∙ e) in
-        (f .0, record { fits = f .1; only = f .2 });
-  }
-
--- the third term, at both densities and in both directions
-pub third-term : (r : Reading) (space : ℕ) → Passes r space → ThirdTerm r space
-unfolding Passes
-third-term (at6250 backward words maps) space p = third-6250 backward words maps space (p .0) (p .1)
-third-term (at800 backward characters) space p = third-800 backward characters space (p .0) (p .1)
+-- a call that stores nothing
+pub nothing-stored : (answer : Answer) → [] ≡ outputAfter answer [] []
+unfolding outputAfter
+nothing-stored (Answer.delivered figures) = refl
+nothing-stored (Answer.refused number place) = refl

@@ -1,2 +1,4 @@
+pub mod Reading
+pub mod Call
 pub mod Terms
 pub mod Starred

@@ -1,56 +1,90 @@
--- The notice's third term. What fits, and what a delivery must tell, is said of readings and written records only; `answer` and
--- `result` are the readers' definitions, with which their contracts equate what they answer and store.
+-- The notice's three terms. Each is a relation between a call, the answer that was given, and the output as it stood before the call and
+-- stands after it. The contracts of the calls say that they hold; here they speak of calls, readings and written records only.
 -- Assumes nothing.
-use mathlib.Core.Bool.{Bool}
-use mathlib.Core.List.{List, [], _∷_}
+use mathlib.Core.Bool.{Bool, false}
+use mathlib.Core.List.{List, _++_, List·Memᴰ}
+use mathlib.Core.Logic.{_⊎_}
 use mathlib.Core.Path.{_≡_}
-use Prim.Native.Nat.{ℕ, _-_, _*_, _≤_}
-use lib.ListN.{length}
-use Rattle.answer.specs.Answer.{Answer, delivered}
-use Rattle.record6250.specs.Fits as six
-use Rattle.record6250.specs.Read as sixRead
-use Rattle.record800.specs.Fits as eight
-use Rattle.record800.specs.Read as eightRead
+use Prim.{Unit}
+use Prim.Native.Nat.{ℕ, _*_, _<_, _≤_}
+use lib.ListN.{length, getD, take, drop}
+use Rattle.answer.specs.Answer.{Answer, delivered, refused, refusals, outputAfter}
+use Rattle.terms.specs.Call.{Call, write, read, wordsToPhysical, wordsToAlgebraic, mapToPhysical, mapToAlgebraic, resultOf, places}
+use Rattle.terms.specs.Reading.{Density, bpi6250, bpi800, Reading, density, isBackward, received, IsData, writtenRecord, turned, undamaged, Enough, Passes, Fits, OneFits, told, unchanged, lengthTold, changesTold, readAnswer, readData}
 
--- A reading: whether it is backward, and, at 6250, its words and a pointer map for each group, or, at 800, its characters.
-pub data Reading : Type 0 where
-  at6250 : Bool → List ℕ → List ℕ → Reading
-  at800 : Bool → List ℕ → Reading
+-- ---- the first term
 
--- lengths, space and stray bits have passed: the first three rows of document 01's table
-unfoldable pub Passes : Reading → ℕ → Type 0
-Passes (at6250 backward words maps) space = six.Passes backward words maps × (7 * length maps - 1 ≤ space)
-Passes (at800 backward characters) space = eight.Passes backward characters × (length characters - 2 ≤ space)
+-- "If a call brings words, characters, pointer maps or lengths of any kind, it ends in a delivery or in one of eight refusals with a
+-- number and a place. A refusal changes nothing in the lent output. A delivery writes its result at the front and nothing behind it."
+unfoldable pub FirstTerm : Call → Answer → List ℕ → List ℕ → Type 0
+FirstTerm call (delivered figures) before after =
+    (length (resultOf call) ≤ length before) × (after ≡ resultOf call ++ drop (length (resultOf call)) before)
+FirstTerm call (refused number place) before after =
+    List·Memᴰ number refusals × ((place < places call) ⊎ (place ≡ 0)) × (after ≡ before)
 
--- the written record of these data fits the reading
-unfoldable pub Fits : Reading → List ℕ → Type 0
-Fits (at6250 backward words maps) bytes = six.Fits backward words maps bytes
-Fits (at800 backward characters) bytes = eight.Fits backward characters bytes
+-- ---- the second term
 
--- what a delivery of these data tells: their length, and the reading's differences from their record (at 800, their track and
--- their number)
-unfoldable pub told : Reading → List ℕ → List ℕ
-told (at6250 backward words maps) bytes = length bytes ∷ six.wordsChanged backward words maps bytes ∷ []
-told (at800 backward characters) bytes =
-    length bytes ∷ eight.trackChanged backward characters bytes ∷ eight.charactersChanged backward characters bytes ∷ []
+-- the front of the output of a writer that delivered: so many groups of nine words, or so many characters
+unfoldable pub recordStored : Density → List ℕ → List ℕ → List ℕ
+recordStored bpi6250 figures after = take (9 * getD figures 0 0) after
+recordStored bpi800 figures after = take (getD figures 0 0) after
 
--- what the reader answers with so much space, and the data that it delivers
-unfoldable pub answer : Reading → ℕ → Answer
-answer (at6250 backward words maps) space = sixRead.readAnswer backward words maps space
-answer (at800 backward characters) space = eightRead.readAnswer backward characters space
+-- "A written record, read undamaged, with space enough and no track pointed, gives its data with no change counted." Of a writer: data within
+-- the limits, if there is space, and what it left, read forward or backward.
+pub record Writes (d : Density) (bytes : List ℕ) (answer : Answer) (after : List ℕ) : Type 0 where
+  pub is-record : (figures : List ℕ) → answer ≡ delivered figures → recordStored d figures after ≡ writtenRecord d bytes
+  pub reads-back : IsData d bytes → (figures : List ℕ) → answer ≡ delivered figures → (backward : Bool) (space : ℕ)
+      → Enough (undamaged d backward (recordStored d figures after)) space
+      → (readAnswer (undamaged d backward (recordStored d figures after)) space ≡ delivered (unchanged d (length bytes)))
+      × (readData (undamaged d backward (recordStored d figures after)) ≡ bytes)
 
-unfoldable pub result : Reading → List ℕ
-result (at6250 backward words maps) = sixRead.readData backward words maps
-result (at800 backward characters) = eightRead.readData backward characters
+-- The same of a reader. "A record read forward with no change, when its data are written, gives the words or characters that were read.
+-- Reading backward answers as reading forward does."
+pub record Reads (r : Reading) (answer : Answer) (before after : List ℕ) : Type 0 where
+  pub undamaged-read : (bytes : List ℕ) → IsData (density r) bytes → r ≡ undamaged (density r) (isBackward r) (writtenRecord (density r) bytes)
+      → Enough r (length before) → (answer ≡ delivered (unchanged (density r) (length bytes))) × (after ≡ bytes ++ drop (length bytes) before)
+  pub unchanged-written : isBackward r ≡ false → (figures : List ℕ) → answer ≡ delivered figures → changesTold (density r) figures ≡ 0
+      → IsData (density r) (take (lengthTold figures) after) × (writtenRecord (density r) (take (lengthTold figures) after) ≡ received r)
+  pub as-turned : (answer ≡ readAnswer (turned r) (length before)) × (after ≡ outputAfter answer (readData (turned r)) before)
 
--- exactly one written record fits, that of these data
-pub record OneFits (r : Reading) (bytes : List ℕ) : Type 0 where
-  pub fits : Fits r bytes
-  pub only : (others : List ℕ) → Fits r others → others ≡ bytes
+unfoldable pub SecondTerm : Call → Answer → List ℕ → List ℕ → Type 0
+SecondTerm (write d bytes) answer before after = Writes d bytes answer after
+SecondTerm (read r) answer before after = Reads r answer before after
+SecondTerm (wordsToPhysical source) answer before after = Unit
+SecondTerm (wordsToAlgebraic source) answer before after = Unit
+SecondTerm (mapToPhysical m) answer before after = Unit
+SecondTerm (mapToAlgebraic m) answer before after = Unit
 
--- "A reading is delivered exactly when exactly one written record fits it, and refused if none or several do. Nobody can get
--- another record delivered than that one: its data are given, with their length, and the changes told are the reading's
--- differences from it."
-pub record ThirdTerm (r : Reading) (space : ℕ) : Type 0 where
-  pub delivered-if-one : (bytes : List ℕ) → OneFits r bytes → (answer r space ≡ delivered (told r bytes)) × (result r ≡ bytes)
-  pub one-if-delivered : (values : List ℕ) → answer r space ≡ delivered values → (bytes : List ℕ) × OneFits r bytes
+-- ---- the third term
+
+-- the call was refused, and its output is as it was
+unfoldable pub Refused : Answer → List ℕ → List ℕ → Type 0
+Refused answer before after = (number : ℕ) × (place : ℕ) × (answer ≡ refused number place) × (after ≡ before)
+
+-- "A reading is delivered exactly when exactly one written record fits it, and refused if none or several do. Nobody can get another
+-- record delivered than that one: its data are given, with their length, and the changes told are the reading's differences from it."
+pub record Decides (r : Reading) (answer : Answer) (before after : List ℕ) : Type 0 where
+  pub delivered-if-one : (bytes : List ℕ) → OneFits r bytes → (answer ≡ delivered (told r bytes)) × (after ≡ bytes ++ drop (length bytes) before)
+  pub one-if-delivered : (figures : List ℕ) → answer ≡ delivered figures → (bytes : List ℕ) × OneFits r bytes
+  pub refused-if-none : ((bytes : List ℕ) → Fits r bytes → ⊥) → Refused answer before after
+  pub refused-if-several : (one another : List ℕ) → Fits r one → Fits r another → (one ≡ another → ⊥) → Refused answer before after
+
+-- "once lengths, space and stray bits have passed"
+unfoldable pub ThirdTerm : Call → Answer → List ℕ → List ℕ → Type 0
+ThirdTerm (write d bytes) answer before after = Unit
+ThirdTerm (read r) answer before after = Passes r (length before) → Decides r answer before after
+ThirdTerm (wordsToPhysical source) answer before after = Unit
+ThirdTerm (wordsToAlgebraic source) answer before after = Unit
+ThirdTerm (mapToPhysical m) answer before after = Unit
+ThirdTerm (mapToAlgebraic m) answer before after = Unit
+
+-- "Exactly one record" is said of data, since a written record has one list of data.
+unfoldable pub OneData : Density → Type 0
+OneData d = (bytes others : List ℕ) → IsData d bytes → IsData d others → writtenRecord d bytes ≡ writtenRecord d others → bytes ≡ others
+
+-- ---- all of them, of one call
+
+pub record Terms (call : Call) (answer : Answer) (before after : List ℕ) : Type 0 where
+  pub first : FirstTerm call answer before after
+  pub second : SecondTerm call answer before after
+  pub third : ThirdTerm call answer before after

@@ -1,0 +1,19 @@
+-- What a delivery says of the tests before it, in a chain of tests each of which refuses.
+-- Assumes nothing.
+use mathlib.Core.Bool.{Bool, true, false, cond}
+use mathlib.Core.List.{List}
+use mathlib.Core.Path.{_≡_, refl, sym}
+use Prim.Native.Nat.{ℕ}
+use Rattle.answer.specs.Answer.{Answer, delivered, refused}
+use Rattle.answer.proofs.Apart.{not-both}
+
+-- a test that refuses where it fails, and one that refuses where it holds
+pub test-held : (b : Bool) (x : Answer) (n p : ℕ) (figures : List ℕ) → cond b x (refused n p) ≡ delivered figures
+    → (b ≡ true) × (x ≡ delivered figures)
+test-held true x n p figures e = (refl, e)
+test-held false x n p figures e = absurd (not-both figures n p (sym e))
+
+pub test-failed : (b : Bool) (x : Answer) (n p : ℕ) (figures : List ℕ) → cond b (refused n p) x ≡ delivered figures
+    → (b ≡ false) × (x ≡ delivered figures)
+test-failed true x n p figures e = absurd (not-both figures n p (sym e))
+test-failed false x n p figures e = (refl, e)

@@ -1,0 +1,146 @@
+-- The notice's first term holds: every answer is a delivery, whose result the output has space for, or a refusal of the table, with its place.
+-- Assumes nothing.
+use mathlib.Core.Bool.{Bool, true, cond, _&&_}
+use mathlib.Core.List.{List, [], _∷_}
+use mathlib.Core.Logic.{inl}
+use mathlib.Core.Path.{_≡_, sym, ap, subst}
+use Prim.Native.Nat.{ℕ, _+_, _-_, _*_, _≤_}
+use native.Mathlib.Omega.{arith}
+use borrow.Author.Tests.{ltb-true, leb-true, eqb-true}
+use lib.Dec.{eqb, leb, ltb}
+use lib.ListN.{length}
+use Rattle.answer.specs.Answer.{Answer, delivered, refusedFor, firstAbove, outputAfter}
+use Rattle.answer.specs.declared.Reason.the-variants.{Length, Space, StrayBits, Padding, NoRecord, SeveralRecords}
+use Rattle.answer.proofs.Listed.{Listed, listed-delivery, listed-at, listed-refusal, listed-choice}
+use Rattle.answer.proofs.Passed.{test-held}
+use Rattle.record6250.proofs.Answer as sixAnswer
+use Rattle.record6250.proofs.Record as sixRecord
+use Rattle.record6250.specs.Group.{reasonOf}
+use Rattle.record6250.specs.Read as six
+use Rattle.record6250.specs.Record as sixSpecs
+use Rattle.record6250.specs.Written as sixWritten
+use Rattle.record800.proofs.Answer as eightAnswer
+use Rattle.record800.proofs.Recorded as eightRecord
+use Rattle.record800.specs.Read as eight
+use Rattle.record800.specs.Record as eightSpecs
+use Rattle.record800.specs.Written as eightWritten
+use Rattle.track_order.proofs.Order.{length-arranged}
+use Rattle.track_order.specs.Moved.{wordsAnswer, mapAnswer}
+use Rattle.track_order.specs.Order.{order, inverse, toPhysical, toAlgebraic}
+use Rattle.terms.specs.Call.{Call, write, read, wordsToPhysical, wordsToAlgebraic, mapToPhysical, mapToAlgebraic, answerTo, resultOf, places}
+use Rattle.terms.specs.Reading.{bpi6250, bpi800, Reading, at6250, at800, Enough, Passes, Fits, writtenRecord, readAnswer, readData}
+use Rattle.terms.specs.Terms.{FirstTerm}
+use Rattle.terms.proofs.Third.{one-delivered, delivered-passes, delivered-one}
+
+-- ---- the refusals of each call
+
+module _ (bound : ℕ) where
+  -- the first rows of the table: lengths, and space
+  first-rows : (suits enough : Bool) (rest : Answer) → (suits ≡ true → Listed bound rest)
+      → Listed bound (cond suits (cond enough rest (refusedFor Space 0)) (refusedFor Length 0))
+  first-rows suits enough rest listed =
+      listed-choice bound suits _ _ (λ s. listed-choice bound enough _ _ (λ e. listed s) (λ e. listed-refusal bound Space))
+      (λ s. listed-refusal bound Length)
+
+  -- and the third: stray bits, told with a place
+  third-row : (place count : ℕ) → count ≤ bound → (rest : Answer) → Listed bound rest
+      → Listed bound (cond (ltb place count) (refusedFor StrayBits place) rest)
+  third-row place count within rest listed =
+      listed-choice bound (ltb place count) _ _ (λ t. listed-at bound StrayBits place (inl (omega (arith, ltb-true place count t)))) (λ t. listed)
+
+listed-6250 : (backward : Bool) (words maps : List ℕ) → Listed (length maps) (six.judgedAnswer backward words maps)
+unfolding six.judgedAnswer
+listed-6250 backward words maps =
+    listed-choice (length maps) (ltb (six.firstUnfit backward words maps) (length maps)) _ _
+    (λ t. listed-at (length maps) (reasonOf (six.judgement backward words maps (six.firstUnfit backward words maps)))
+    (six.firstUnfit backward words maps) (inl (ltb-true _ _ t)))
+    (λ t. listed-choice (length maps) (six.paddingSuits (six.readBody backward words maps)) _ _ (λ p. listed-delivery (length maps) _)
+    (λ p. listed-refusal (length maps) Padding))
+
+listed-one-of : (bound n : ℕ) (characters tracks : List ℕ) → Listed bound (eight.oneOf n characters tracks)
+unfolding eight.oneOf
+listed-one-of bound n characters [] = listed-refusal bound NoRecord
+listed-one-of bound n characters (j ∷ []) = listed-delivery bound _
+listed-one-of bound n characters (i ∷ j ∷ more) = listed-refusal bound SeveralRecords
+
+listed-800 : (bound n : ℕ) (characters : List ℕ) → Listed bound (eight.judgedAnswer n characters)
+unfolding eight.judgedAnswer
+listed-800 bound n characters =
+    listed-choice bound (eqb (eight.wrongCount n characters) 0) _ _
+    (λ t. listed-choice bound (eight.holds n characters 0) _ _ (λ h. listed-delivery bound _) (λ h. listed-refusal bound NoRecord))
+    (λ t. listed-one-of bound n characters _)
+
+listed-read : (r : Reading) (space : ℕ) → Listed (places (read r)) (readAnswer r space)
+unfolding readAnswer places six.readAnswer eight.readAnswer
+listed-read (at6250 backward words maps) space =
+    first-rows (length maps) (six.lengthsSuit (length words) (length maps)) (leb (7 * length maps - 1) space) _
+    (λ s. third-row (length maps) (six.firstStray backward words maps) (length maps) (omega arith) _ (listed-6250 backward words maps))
+listed-read (at800 backward characters) space =
+    first-rows (length characters) (eight.lengthSuits (length characters)) (leb (length characters - 2) space) _
+    (λ s. third-row (length characters) (eight.firstStray backward characters) (length characters) (omega arith) _
+    (listed-800 (length characters) (length characters - 2) (eight.picture backward characters)))
+
+listed-words : (source : List ℕ) (space : ℕ) → Listed (length source) (wordsAnswer source space)
+unfolding wordsAnswer
+listed-words source space =
+    first-rows (length source) (eqb (length source) 9) (leb 9 space) _
+    (λ s. third-row (length source) (firstAbove 1023 source) 9 (omega (arith, eqb-true (length source) 9 s)) _ (listed-delivery (length source) []))
+
+listed-map : (moved : ℕ → ℕ) (m : ℕ) → Listed 0 (mapAnswer moved m)
+unfolding mapAnswer
+listed-map moved m = listed-choice 0 (leb m 511) _ _ (λ t. listed-delivery 0 _) (λ t. listed-refusal 0 StrayBits)
+
+listed-answer : (call : Call) (space : ℕ) → Listed (places call) (answerTo call space)
+unfolding answerTo places sixWritten.writeAnswer eightWritten.writeAnswer
+listed-answer (write bpi6250 bytes) space =
+    first-rows 0 (leb (length bytes) sixSpecs.mostData) (leb (9 * sixSpecs.groupsFor (length bytes)) space) _ (λ s. listed-delivery 0 _)
+listed-answer (write bpi800 bytes) space =
+    first-rows 0 (leb 1 (length bytes) && leb (length bytes) eightSpecs.mostData) (leb (length bytes + 2) space) _ (λ s. listed-delivery 0 _)
+listed-answer (read r) space = listed-read r space
+listed-answer (wordsToPhysical source) space = listed-words source space
+listed-answer (wordsToAlgebraic source) space = listed-words source space
+listed-answer (mapToPhysical m) space = listed-map _ m
+listed-answer (mapToAlgebraic m) space = listed-map _ m
+
+-- ---- the space of a delivery
+
+-- data whose record fits have space
+fit-within : (r : Reading) (space : ℕ) → Passes r space → (bytes : List ℕ) → Fits r bytes → length bytes ≤ space
+unfolding Passes Enough Fits sixSpecs.groupsFor
+fit-within (at6250 backward words maps) space p bytes fits = omega (arith, fits .as-many, p .1)
+fit-within (at800 backward characters) space p bytes fits = omega (arith, fits .as-long, p .1)
+
+read-within : (r : Reading) (space : ℕ) (figures : List ℕ) → readAnswer r space ≡ delivered figures → length (readData r) ≤ space
+read-within r space figures e =
+    let passes = delivered-passes r space figures e in
+    let one = delivered-one r space figures e in
+    omega (arith, ap length (one-delivered r space passes (one .0) (one .1) .1), fit-within r space passes (one .0) (one .1 .fits))
+
+words-within : (source : List ℕ) (space : ℕ) (figures : List ℕ) → wordsAnswer source space ≡ delivered figures → 9 ≤ space
+unfolding wordsAnswer
+words-within source space figures e =
+    leb-true 9 space (test-held (leb 9 space) _ 2 0 figures (test-held (eqb (length source) 9) _ 1 0 figures e .1) .0)
+
+result-within : (call : Call) (space : ℕ) (figures : List ℕ) → answerTo call space ≡ delivered figures → length (resultOf call) ≤ space
+unfolding answerTo resultOf writtenRecord toPhysical toAlgebraic
+result-within (write bpi6250 bytes) space figures e =
+    omega (arith, sixRecord.length-record bytes, sixAnswer.written-passed (length bytes) space figures e .1)
+result-within (write bpi800 bytes) space figures e =
+    omega (arith, eightRecord.length-record bytes, eightAnswer.written-passed (length bytes) space figures e .1)
+result-within (read r) space figures e = read-within r space figures e
+result-within (wordsToPhysical source) space figures e =
+    omega (arith, length-arranged order source, words-within source space figures e)
+result-within (wordsToAlgebraic source) space figures e =
+    omega (arith, length-arranged (inverse order) source, words-within source space figures e)
+result-within (mapToPhysical m) space figures e = omega arith
+result-within (mapToAlgebraic m) space figures e = omega arith
+
+-- ---- the first term, of any answer and output that are the call's
+
+pub ends : (call : Call) (answer : Answer) (before after : List ℕ) → answer ≡ answerTo call (length before)
+    → after ≡ outputAfter answer (resultOf call) before → FirstTerm call answer before after
+unfolding FirstTerm Listed outputAfter
+ends call (Answer.delivered figures) before after answers stores = (result-within call (length before) figures (sym answers), stores)
+ends call (Answer.refused number place) before after answers stores =
+    let listed = subst (Listed (places call)) (sym answers) (listed-answer call (length before)) in
+    (listed .0, listed .1, stores)
