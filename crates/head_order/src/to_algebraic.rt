@@ -5,13 +5,15 @@ use crate::PhysicalTrack;
 use answer::Reason;
 use answer::Refusal;
 ghost use mathlib.Core.Path.{_≡_};
-ghost use mathlib.Core.List.{_++_};
+ghost use mathlib.Core.List.{[], _++_};
 ghost use Prim.Native.Nat.{_≤_};
 ghost use lib.ListN.{length, drop};
 ghost use Rattle.answer.specs.Answer.{outputAfter};
 ghost use Rattle.track_order.specs.Order.{toAlgebraic, mapToAlgebraic};
 ghost use Rattle.track_order.specs.Moved.{wordsAnswer, mapAnswer};
 ghost use Rattle.head_order.specs.Told.{toldWords, toldMap};
+ghost use Rattle.terms.specs.Call as Call;
+ghost use Rattle.terms.specs.Terms.{Terms};
 
 // Nine words of head order, put into code order at the front of the target.
 fn arrange(source: &[u16], target: &mut [u16])
@@ -31,6 +33,7 @@ fn arrange(source: &[u16], target: &mut [u16])
 pub fn words(source: &[u16], target: &mut [u16]) -> MovedWords
     ensures answer { λ r. ⌜ toldWords r ≡ wordsAnswer (now (source .entry)) (length (now (target .entry))) ⌝ }
     ensures output { λ r. ⌜ now (target .exit) ≡ outputAfter (toldWords r) (toAlgebraic (now (source .entry))) (now (target .entry)) ⌝ }
+    ensures terms { λ r. ⌜ Terms (Call.wordsToAlgebraic (now (source .entry))) (toldWords r) (now (target .entry)) (now (target .exit)) ⌝ }
 {
     let answer = crate::checked(source, target.len());
     if let MovedWords::Delivered = answer {
@@ -42,7 +45,8 @@ pub fn words(source: &[u16], target: &mut [u16]) -> MovedWords
 // Moves a pointer map. Physical track p is bit p - 1 of what comes, and algebraic track a is bit a of
 // what is told.
 pub fn map(map: u16) -> MovedMap
-    ensures { λ r. ⌜ toldMap r ≡ mapAnswer mapToAlgebraic map ⌝ }
+    ensures answer { λ r. ⌜ toldMap r ≡ mapAnswer mapToAlgebraic map ⌝ }
+    ensures terms { λ r. ⌜ Terms (Call.mapToAlgebraic map) (toldMap r) [] [] ⌝ }
 {
     if map > crate::MOST_MAP {
         return MovedMap::Refused(Refusal {

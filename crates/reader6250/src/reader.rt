@@ -26,6 +26,9 @@ ghost use Rattle.answer.specs.Answer.{refusedFor, outputAfter};
 ghost use Rattle.record6250.specs.Fits.{Passes};
 ghost use Rattle.record6250.specs.Read.{firstUnfit, readBody, readData, judgedAnswer, readAnswer, lengthsSuit, unpadded};
 ghost use Rattle.reader6250.specs.Told.{toldRead, toldScan, scanAnswer, paddingAnswer};
+ghost use Rattle.terms.specs.Call as Call;
+ghost use Rattle.terms.specs.Reading.{at6250};
+ghost use Rattle.terms.specs.Terms.{Terms};
 
 // What the groups of a record come to: how many words are changed, or why it is refused.
 enum Scan {
@@ -161,6 +164,7 @@ fn read(words: &[u16], maps: &[u16], backward: bool, table: &[u16], output: &mut
 pub fn read_forward(words: &[u16], maps: &[u16], output: &mut [u8]) -> Read
     ensures answer { λ r. ⌜ toldRead r ≡ readAnswer false (now (words .entry)) (now (maps .entry)) (length (now (output .entry))) ⌝ }
     ensures output { λ r. ⌜ now (output .exit) ≡ outputAfter (toldRead r) (readData false (now (words .entry)) (now (maps .entry))) (now (output .entry)) ⌝ }
+    ensures terms { λ r. ⌜ Terms (Call.read (at6250 false (now (words .entry)) (now (maps .entry)))) (toldRead r) (now (output .entry)) (now (output .exit)) ⌝ }
 {
     let table = forward_readings();
     read(words, maps, false, &table, output)
@@ -170,6 +174,7 @@ pub fn read_forward(words: &[u16], maps: &[u16], output: &mut [u8]) -> Read
 pub fn read_backward(words: &[u16], maps: &[u16], output: &mut [u8]) -> Read
     ensures answer { λ r. ⌜ toldRead r ≡ readAnswer true (now (words .entry)) (now (maps .entry)) (length (now (output .entry))) ⌝ }
     ensures output { λ r. ⌜ now (output .exit) ≡ outputAfter (toldRead r) (readData true (now (words .entry)) (now (maps .entry))) (now (output .entry)) ⌝ }
+    ensures terms { λ r. ⌜ Terms (Call.read (at6250 true (now (words .entry)) (now (maps .entry)))) (toldRead r) (now (output .entry)) (now (output .exit)) ⌝ }
 {
     let table = backward_readings();
     read(words, maps, true, &table, output)

@@ -24,6 +24,9 @@ ghost use Rattle.cyclic.specs.Constants.{feedback, offset};
 ghost use Rattle.record800.specs.Fits.{Passes};
 ghost use Rattle.record800.specs.Read.{picture, judgedAnswer, lengthSuits, firstStray, readData, readAnswer};
 ghost use Rattle.reader800.specs.Told.{toldRead, GatheredAre, FoundIs, storedData};
+ghost use Rattle.terms.specs.Call as Call;
+ghost use Rattle.terms.specs.Reading.{at800};
+ghost use Rattle.terms.specs.Terms.{Terms};
 
 // What one pass gathers: the check register and the error-pattern register, all but the longitudinal
 // character entered, the exclusive-or of all characters, and how many have the wrong parity.
@@ -254,6 +257,7 @@ fn read(characters: &[u16], backward: bool, output: &mut [u8]) -> Read
 pub fn read_forward(characters: &[u16], output: &mut [u8]) -> Read
     ensures answer { λ r. ⌜ toldRead r ≡ readAnswer false (now (characters .entry)) (length (now (output .entry))) ⌝ }
     ensures output { λ r. ⌜ now (output .exit) ≡ outputAfter (toldRead r) (readData false (now (characters .entry))) (now (output .entry)) ⌝ }
+    ensures terms { λ r. ⌜ Terms (Call.read (at800 false (now (characters .entry)))) (toldRead r) (now (output .entry)) (now (output .exit)) ⌝ }
 {
     read(characters, false, output)
 }
@@ -262,6 +266,7 @@ pub fn read_forward(characters: &[u16], output: &mut [u8]) -> Read
 pub fn read_backward(characters: &[u16], output: &mut [u8]) -> Read
     ensures answer { λ r. ⌜ toldRead r ≡ readAnswer true (now (characters .entry)) (length (now (output .entry))) ⌝ }
     ensures output { λ r. ⌜ now (output .exit) ≡ outputAfter (toldRead r) (readData true (now (characters .entry))) (now (output .entry)) ⌝ }
+    ensures terms { λ r. ⌜ Terms (Call.read (at800 true (now (characters .entry)))) (toldRead r) (now (output .entry)) (now (output .exit)) ⌝ }
 {
     read(characters, true, output)
 }

@@ -3,15 +3,12 @@ use crate::refused_status;
 use reader6250::Read;
 use writer6250::Written;
 ghost use mathlib.Core.Bool.{true, false};
-ghost use mathlib.Core.Path.{_≡_};
-ghost use lib.ListN.{length};
-ghost use Rattle.answer.specs.Answer.{outputAfter};
-ghost use Rattle.record6250.specs.Read.{readAnswer, readData};
-ghost use Rattle.record6250.specs.Record.{writtenRecord};
+ghost use mathlib.Core.List.{[], _∷_};
 ghost use Rattle.reader6250.specs.Told.{toldRead};
-ghost use Rattle.record6250.specs.Written.{writeAnswer};
 ghost use Rattle.writer6250.specs.Written.{toldWritten};
-ghost use Rattle.rindthok.specs.Status.{status, placeTold, valueAfter};
+ghost use Rattle.terms.specs.Call as Call;
+ghost use Rattle.terms.specs.Reading.{bpi6250, at6250};
+ghost use Rattle.rindthok.specs.Called.{Told, Called};
 
 // Writes a 6250 record, and stores the number of its groups.
 #[no_mangle]
@@ -21,10 +18,7 @@ pub extern "C" fn rindthok_write6250(
     groups: &mut usize,
     place: &mut usize,
 ) -> u16
-    ensures returned { λ r. ⌜ r ≡ status (writeAnswer (length (now (bytes .entry))) (length (now (words .entry)))) ⌝ }
-    ensures told { λ _. ⌜ now (place .exit) ≡ placeTold (writeAnswer (length (now (bytes .entry))) (length (now (words .entry)))) ⌝ }
-    ensures counted { λ _. ⌜ now (groups .exit) ≡ valueAfter (writeAnswer (length (now (bytes .entry))) (length (now (words .entry)))) 0 (now (groups .entry)) ⌝ }
-    ensures output { λ _. ⌜ now (words .exit) ≡ outputAfter (writeAnswer (length (now (bytes .entry))) (length (now (words .entry)))) (writtenRecord (now (bytes .entry))) (now (words .entry)) ⌝ }
+    ensures { λ r. ⌜ Called (Call.write bpi6250 (now (bytes .entry))) (now (words .entry)) (now (words .exit)) (now (groups .entry) ∷ []) (now (groups .exit) ∷ []) r (now (place .exit)) ⌝ }
 {
     written_status(writer6250::write(bytes, words), groups, place)
 }
@@ -39,11 +33,7 @@ pub extern "C" fn rindthok_read6250_forward(
     changes: &mut usize,
     place: &mut usize,
 ) -> u16
-    ensures returned { λ r. ⌜ r ≡ status (readAnswer false (now (words .entry)) (now (maps .entry)) (length (now (output .entry)))) ⌝ }
-    ensures told { λ _. ⌜ now (place .exit) ≡ placeTold (readAnswer false (now (words .entry)) (now (maps .entry)) (length (now (output .entry)))) ⌝ }
-    ensures counted { λ _. ⌜ now (size .exit) ≡ valueAfter (readAnswer false (now (words .entry)) (now (maps .entry)) (length (now (output .entry)))) 0 (now (size .entry)) ⌝ }
-    ensures changed { λ _. ⌜ now (changes .exit) ≡ valueAfter (readAnswer false (now (words .entry)) (now (maps .entry)) (length (now (output .entry)))) 1 (now (changes .entry)) ⌝ }
-    ensures output { λ _. ⌜ now (output .exit) ≡ outputAfter (readAnswer false (now (words .entry)) (now (maps .entry)) (length (now (output .entry)))) (readData false (now (words .entry)) (now (maps .entry))) (now (output .entry)) ⌝ }
+    ensures { λ r. ⌜ Called (Call.read (at6250 false (now (words .entry)) (now (maps .entry)))) (now (output .entry)) (now (output .exit)) (now (size .entry) ∷ now (changes .entry) ∷ []) (now (size .exit) ∷ now (changes .exit) ∷ []) r (now (place .exit)) ⌝ }
 {
     read_status(
         reader6250::read_forward(words, maps, output),
@@ -63,11 +53,7 @@ pub extern "C" fn rindthok_read6250_backward(
     changes: &mut usize,
     place: &mut usize,
 ) -> u16
-    ensures returned { λ r. ⌜ r ≡ status (readAnswer true (now (words .entry)) (now (maps .entry)) (length (now (output .entry)))) ⌝ }
-    ensures told { λ _. ⌜ now (place .exit) ≡ placeTold (readAnswer true (now (words .entry)) (now (maps .entry)) (length (now (output .entry)))) ⌝ }
-    ensures counted { λ _. ⌜ now (size .exit) ≡ valueAfter (readAnswer true (now (words .entry)) (now (maps .entry)) (length (now (output .entry)))) 0 (now (size .entry)) ⌝ }
-    ensures changed { λ _. ⌜ now (changes .exit) ≡ valueAfter (readAnswer true (now (words .entry)) (now (maps .entry)) (length (now (output .entry)))) 1 (now (changes .entry)) ⌝ }
-    ensures output { λ _. ⌜ now (output .exit) ≡ outputAfter (readAnswer true (now (words .entry)) (now (maps .entry)) (length (now (output .entry)))) (readData true (now (words .entry)) (now (maps .entry))) (now (output .entry)) ⌝ }
+    ensures { λ r. ⌜ Called (Call.read (at6250 true (now (words .entry)) (now (maps .entry)))) (now (output .entry)) (now (output .exit)) (now (size .entry) ∷ now (changes .entry) ∷ []) (now (size .exit) ∷ now (changes .exit) ∷ []) r (now (place .exit)) ⌝ }
 {
     read_status(
         reader6250::read_backward(words, maps, output),
@@ -79,10 +65,7 @@ pub extern "C" fn rindthok_read6250_backward(
 
 // The answer for a reading as numbers.
 fn read_status(answer: Read, size: &mut usize, changes: &mut usize, place: &mut usize) -> u16
-    ensures returned { λ r. ⌜ r ≡ status (toldRead answer) ⌝ }
-    ensures told { λ _. ⌜ now (place .exit) ≡ placeTold (toldRead answer) ⌝ }
-    ensures counted { λ _. ⌜ now (size .exit) ≡ valueAfter (toldRead answer) 0 (now (size .entry)) ⌝ }
-    ensures changed { λ _. ⌜ now (changes .exit) ≡ valueAfter (toldRead answer) 1 (now (changes .entry)) ⌝ }
+    ensures { λ r. ⌜ Told (toldRead answer) (now (size .entry) ∷ now (changes .entry) ∷ []) (now (size .exit) ∷ now (changes .exit) ∷ []) r (now (place .exit)) ⌝ }
 {
     match answer {
         Read::Delivered(figures) => {
@@ -97,9 +80,7 @@ fn read_status(answer: Read, size: &mut usize, changes: &mut usize, place: &mut 
 
 // The answer for a written record as numbers.
 fn written_status(answer: Written, groups: &mut usize, place: &mut usize) -> u16
-    ensures returned { λ r. ⌜ r ≡ status (toldWritten answer) ⌝ }
-    ensures told { λ _. ⌜ now (place .exit) ≡ placeTold (toldWritten answer) ⌝ }
-    ensures counted { λ _. ⌜ now (groups .exit) ≡ valueAfter (toldWritten answer) 0 (now (groups .entry)) ⌝ }
+    ensures { λ r. ⌜ Told (toldWritten answer) (now (groups .entry) ∷ []) (now (groups .exit) ∷ []) r (now (place .exit)) ⌝ }
 {
     match answer {
         Written::Delivered(count) => {

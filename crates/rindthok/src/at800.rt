@@ -3,15 +3,12 @@ use crate::refused_status;
 use reader800::Read;
 use writer800::Written;
 ghost use mathlib.Core.Bool.{true, false};
-ghost use mathlib.Core.Path.{_≡_};
-ghost use lib.ListN.{length};
-ghost use Rattle.answer.specs.Answer.{outputAfter};
-ghost use Rattle.record800.specs.Read.{readAnswer, readData};
-ghost use Rattle.record800.specs.Record.{writtenRecord};
+ghost use mathlib.Core.List.{[], _∷_};
 ghost use Rattle.reader800.specs.Told.{toldRead};
-ghost use Rattle.record800.specs.Written.{writeAnswer};
 ghost use Rattle.writer800.specs.Written.{toldWritten};
-ghost use Rattle.rindthok.specs.Status.{status, placeTold, valueAfter};
+ghost use Rattle.terms.specs.Call as Call;
+ghost use Rattle.terms.specs.Reading.{bpi800, at800};
+ghost use Rattle.rindthok.specs.Called.{Told, Called};
 
 // Writes an 800 record, and stores the number of its characters.
 #[no_mangle]
@@ -21,10 +18,7 @@ pub extern "C" fn rindthok_write800(
     count: &mut usize,
     place: &mut usize,
 ) -> u16
-    ensures returned { λ r. ⌜ r ≡ status (writeAnswer (length (now (bytes .entry))) (length (now (characters .entry)))) ⌝ }
-    ensures told { λ _. ⌜ now (place .exit) ≡ placeTold (writeAnswer (length (now (bytes .entry))) (length (now (characters .entry)))) ⌝ }
-    ensures counted { λ _. ⌜ now (count .exit) ≡ valueAfter (writeAnswer (length (now (bytes .entry))) (length (now (characters .entry)))) 0 (now (count .entry)) ⌝ }
-    ensures output { λ _. ⌜ now (characters .exit) ≡ outputAfter (writeAnswer (length (now (bytes .entry))) (length (now (characters .entry)))) (writtenRecord (now (bytes .entry))) (now (characters .entry)) ⌝ }
+    ensures { λ r. ⌜ Called (Call.write bpi800 (now (bytes .entry))) (now (characters .entry)) (now (characters .exit)) (now (count .entry) ∷ []) (now (count .exit) ∷ []) r (now (place .exit)) ⌝ }
 {
     written_status(writer800::write(bytes, characters), count, place)
 }
@@ -39,12 +33,7 @@ pub extern "C" fn rindthok_read800_forward(
     changes: &mut usize,
     place: &mut usize,
 ) -> u16
-    ensures returned { λ r. ⌜ r ≡ status (readAnswer false (now (characters .entry)) (length (now (output .entry)))) ⌝ }
-    ensures told { λ _. ⌜ now (place .exit) ≡ placeTold (readAnswer false (now (characters .entry)) (length (now (output .entry)))) ⌝ }
-    ensures counted { λ _. ⌜ now (size .exit) ≡ valueAfter (readAnswer false (now (characters .entry)) (length (now (output .entry)))) 0 (now (size .entry)) ⌝ }
-    ensures corrected { λ _. ⌜ now (track .exit) ≡ valueAfter (readAnswer false (now (characters .entry)) (length (now (output .entry)))) 1 (now (track .entry)) ⌝ }
-    ensures changed { λ _. ⌜ now (changes .exit) ≡ valueAfter (readAnswer false (now (characters .entry)) (length (now (output .entry)))) 2 (now (changes .entry)) ⌝ }
-    ensures output { λ _. ⌜ now (output .exit) ≡ outputAfter (readAnswer false (now (characters .entry)) (length (now (output .entry)))) (readData false (now (characters .entry))) (now (output .entry)) ⌝ }
+    ensures { λ r. ⌜ Called (Call.read (at800 false (now (characters .entry)))) (now (output .entry)) (now (output .exit)) (now (size .entry) ∷ now (track .entry) ∷ now (changes .entry) ∷ []) (now (size .exit) ∷ now (track .exit) ∷ now (changes .exit) ∷ []) r (now (place .exit)) ⌝ }
 {
     read_status(
         reader800::read_forward(characters, output),
@@ -65,12 +54,7 @@ pub extern "C" fn rindthok_read800_backward(
     changes: &mut usize,
     place: &mut usize,
 ) -> u16
-    ensures returned { λ r. ⌜ r ≡ status (readAnswer true (now (characters .entry)) (length (now (output .entry)))) ⌝ }
-    ensures told { λ _. ⌜ now (place .exit) ≡ placeTold (readAnswer true (now (characters .entry)) (length (now (output .entry)))) ⌝ }
-    ensures counted { λ _. ⌜ now (size .exit) ≡ valueAfter (readAnswer true (now (characters .entry)) (length (now (output .entry)))) 0 (now (size .entry)) ⌝ }
-    ensures corrected { λ _. ⌜ now (track .exit) ≡ valueAfter (readAnswer true (now (characters .entry)) (length (now (output .entry)))) 1 (now (track .entry)) ⌝ }
-    ensures changed { λ _. ⌜ now (changes .exit) ≡ valueAfter (readAnswer true (now (characters .entry)) (length (now (output .entry)))) 2 (now (changes .entry)) ⌝ }
-    ensures output { λ _. ⌜ now (output .exit) ≡ outputAfter (readAnswer true (now (characters .entry)) (length (now (output .entry)))) (readData true (now (characters .entry))) (now (output .entry)) ⌝ }
+    ensures { λ r. ⌜ Called (Call.read (at800 true (now (characters .entry)))) (now (output .entry)) (now (output .exit)) (now (size .entry) ∷ now (track .entry) ∷ now (changes .entry) ∷ []) (now (size .exit) ∷ now (track .exit) ∷ now (changes .exit) ∷ []) r (now (place .exit)) ⌝ }
 {
     read_status(
         reader800::read_backward(characters, output),
@@ -89,11 +73,7 @@ fn read_status(
     changes: &mut usize,
     place: &mut usize,
 ) -> u16
-    ensures returned { λ r. ⌜ r ≡ status (toldRead answer) ⌝ }
-    ensures told { λ _. ⌜ now (place .exit) ≡ placeTold (toldRead answer) ⌝ }
-    ensures counted { λ _. ⌜ now (size .exit) ≡ valueAfter (toldRead answer) 0 (now (size .entry)) ⌝ }
-    ensures corrected { λ _. ⌜ now (track .exit) ≡ valueAfter (toldRead answer) 1 (now (track .entry)) ⌝ }
-    ensures changed { λ _. ⌜ now (changes .exit) ≡ valueAfter (toldRead answer) 2 (now (changes .entry)) ⌝ }
+    ensures { λ r. ⌜ Told (toldRead answer) (now (size .entry) ∷ now (track .entry) ∷ now (changes .entry) ∷ []) (now (size .exit) ∷ now (track .exit) ∷ now (changes .exit) ∷ []) r (now (place .exit)) ⌝ }
 {
     match answer {
         Read::Delivered(figures) => {
@@ -109,9 +89,7 @@ fn read_status(
 
 // The answer for a written record as numbers.
 fn written_status(answer: Written, count: &mut usize, place: &mut usize) -> u16
-    ensures returned { λ r. ⌜ r ≡ status (toldWritten answer) ⌝ }
-    ensures told { λ _. ⌜ now (place .exit) ≡ placeTold (toldWritten answer) ⌝ }
-    ensures counted { λ _. ⌜ now (count .exit) ≡ valueAfter (toldWritten answer) 0 (now (count .entry)) ⌝ }
+    ensures { λ r. ⌜ Told (toldWritten answer) (now (count .entry) ∷ []) (now (count .exit) ∷ []) r (now (place .exit)) ⌝ }
 {
     match answer {
         Written::Delivered(characters) => {

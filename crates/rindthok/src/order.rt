@@ -2,13 +2,10 @@
 use crate::refused_status;
 use head_order::MovedMap;
 use head_order::MovedWords;
-ghost use mathlib.Core.Path.{_≡_};
-ghost use lib.ListN.{length};
-ghost use Rattle.answer.specs.Answer.{outputAfter};
-ghost use Rattle.track_order.specs.Order.{toPhysical, toAlgebraic, mapToPhysical, mapToAlgebraic};
-ghost use Rattle.track_order.specs.Moved.{wordsAnswer, mapAnswer};
+ghost use mathlib.Core.List.{[], _∷_};
 ghost use Rattle.head_order.specs.Told.{toldWords, toldMap};
-ghost use Rattle.rindthok.specs.Status.{status, placeTold, valueAfter};
+ghost use Rattle.terms.specs.Call as Call;
+ghost use Rattle.rindthok.specs.Called.{Told, Called};
 
 // Nine words from code order to head order.
 #[no_mangle]
@@ -17,9 +14,7 @@ pub extern "C" fn rindthok_words_to_physical(
     target: &mut [u16],
     place: &mut usize,
 ) -> u16
-    ensures returned { λ r. ⌜ r ≡ status (wordsAnswer (now (source .entry)) (length (now (target .entry)))) ⌝ }
-    ensures told { λ _. ⌜ now (place .exit) ≡ placeTold (wordsAnswer (now (source .entry)) (length (now (target .entry)))) ⌝ }
-    ensures output { λ _. ⌜ now (target .exit) ≡ outputAfter (wordsAnswer (now (source .entry)) (length (now (target .entry)))) (toPhysical (now (source .entry))) (now (target .entry)) ⌝ }
+    ensures { λ r. ⌜ Called (Call.wordsToPhysical (now (source .entry))) (now (target .entry)) (now (target .exit)) [] [] r (now (place .exit)) ⌝ }
 {
     words_status(head_order::to_physical::words(source, target), place)
 }
@@ -31,9 +26,7 @@ pub extern "C" fn rindthok_words_to_algebraic(
     target: &mut [u16],
     place: &mut usize,
 ) -> u16
-    ensures returned { λ r. ⌜ r ≡ status (wordsAnswer (now (source .entry)) (length (now (target .entry)))) ⌝ }
-    ensures told { λ _. ⌜ now (place .exit) ≡ placeTold (wordsAnswer (now (source .entry)) (length (now (target .entry)))) ⌝ }
-    ensures output { λ _. ⌜ now (target .exit) ≡ outputAfter (wordsAnswer (now (source .entry)) (length (now (target .entry)))) (toAlgebraic (now (source .entry))) (now (target .entry)) ⌝ }
+    ensures { λ r. ⌜ Called (Call.wordsToAlgebraic (now (source .entry))) (now (target .entry)) (now (target .exit)) [] [] r (now (place .exit)) ⌝ }
 {
     words_status(head_order::to_algebraic::words(source, target), place)
 }
@@ -41,9 +34,7 @@ pub extern "C" fn rindthok_words_to_algebraic(
 // A pointer map from code order to head order.
 #[no_mangle]
 pub extern "C" fn rindthok_map_to_physical(map: u16, moved: &mut u16, place: &mut usize) -> u16
-    ensures returned { λ r. ⌜ r ≡ status (mapAnswer mapToPhysical map) ⌝ }
-    ensures told { λ _. ⌜ now (place .exit) ≡ placeTold (mapAnswer mapToPhysical map) ⌝ }
-    ensures output { λ _. ⌜ now (moved .exit) ≡ valueAfter (mapAnswer mapToPhysical map) 0 (now (moved .entry)) ⌝ }
+    ensures { λ r. ⌜ Called (Call.mapToPhysical map) [] [] (now (moved .entry) ∷ []) (now (moved .exit) ∷ []) r (now (place .exit)) ⌝ }
 {
     map_status(head_order::to_physical::map(map), moved, place)
 }
@@ -51,17 +42,14 @@ pub extern "C" fn rindthok_map_to_physical(map: u16, moved: &mut u16, place: &mu
 // A pointer map from head order to code order.
 #[no_mangle]
 pub extern "C" fn rindthok_map_to_algebraic(map: u16, moved: &mut u16, place: &mut usize) -> u16
-    ensures returned { λ r. ⌜ r ≡ status (mapAnswer mapToAlgebraic map) ⌝ }
-    ensures told { λ _. ⌜ now (place .exit) ≡ placeTold (mapAnswer mapToAlgebraic map) ⌝ }
-    ensures output { λ _. ⌜ now (moved .exit) ≡ valueAfter (mapAnswer mapToAlgebraic map) 0 (now (moved .entry)) ⌝ }
+    ensures { λ r. ⌜ Called (Call.mapToAlgebraic map) [] [] (now (moved .entry) ∷ []) (now (moved .exit) ∷ []) r (now (place .exit)) ⌝ }
 {
     map_status(head_order::to_algebraic::map(map), moved, place)
 }
 
 // The answer for nine words as numbers.
 fn words_status(answer: MovedWords, place: &mut usize) -> u16
-    ensures returned { λ r. ⌜ r ≡ status (toldWords answer) ⌝ }
-    ensures told { λ _. ⌜ now (place .exit) ≡ placeTold (toldWords answer) ⌝ }
+    ensures { λ r. ⌜ Told (toldWords answer) [] [] r (now (place .exit)) ⌝ }
 {
     match answer {
         MovedWords::Delivered => {
@@ -74,9 +62,7 @@ fn words_status(answer: MovedWords, place: &mut usize) -> u16
 
 // The answer for a map as numbers.
 fn map_status(answer: MovedMap, moved: &mut u16, place: &mut usize) -> u16
-    ensures returned { λ r. ⌜ r ≡ status (toldMap answer) ⌝ }
-    ensures told { λ _. ⌜ now (place .exit) ≡ placeTold (toldMap answer) ⌝ }
-    ensures output { λ _. ⌜ now (moved .exit) ≡ valueAfter (toldMap answer) 0 (now (moved .entry)) ⌝ }
+    ensures { λ r. ⌜ Told (toldMap answer) (now (moved .entry) ∷ []) (now (moved .exit) ∷ []) r (now (place .exit)) ⌝ }
 {
     match answer {
         MovedMap::Delivered(map) => {

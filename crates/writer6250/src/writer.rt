@@ -12,6 +12,9 @@ ghost use Rattle.answer.specs.Answer.{outputAfter};
 ghost use Rattle.record6250.specs.Record.{body, groupBytes, writtenRecord};
 ghost use Rattle.record6250.specs.Written.{writeAnswer};
 ghost use Rattle.writer6250.specs.Written.{toldWritten, groupsStored};
+ghost use Rattle.terms.specs.Call as Call;
+ghost use Rattle.terms.specs.Reading.{bpi6250};
+ghost use Rattle.terms.specs.Terms.{Terms};
 
 // The bytes of the last group: the data that are left, the zero bytes, and the byte that counts them.
 fn last_group(bytes: &[u8]) -> [u8; 7]
@@ -49,6 +52,7 @@ fn write_groups(bytes: &[u8], words: &mut [u16])
 pub fn write(bytes: &[u8], words: &mut [u16]) -> Written
     ensures answer { λ r. ⌜ toldWritten r ≡ writeAnswer (length (now (bytes .entry))) (length (now (words .entry))) ⌝ }
     ensures output { λ r. ⌜ now (words .exit) ≡ outputAfter (toldWritten r) (writtenRecord (now (bytes .entry))) (now (words .entry)) ⌝ }
+    ensures terms { λ r. ⌜ Terms (Call.write bpi6250 (now (bytes .entry))) (toldWritten r) (now (words .entry)) (now (words .exit)) ⌝ }
 {
     if bytes.len() > Code6250::MOST_DATA {
         return Written::Refused(Refusal {

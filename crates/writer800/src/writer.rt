@@ -13,6 +13,9 @@ ghost use Rattle.answer.specs.Answer.{outputAfter};
 ghost use Rattle.record800.specs.Record.{characterOf, writtenRecord};
 ghost use Rattle.record800.specs.Written.{writeAnswer};
 ghost use Rattle.writer800.specs.Written.{toldWritten, stored, sumsAre};
+ghost use Rattle.terms.specs.Call as Call;
+ghost use Rattle.terms.specs.Reading.{bpi800};
+ghost use Rattle.terms.specs.Terms.{Terms};
 
 // The check register and the exclusive-or of the characters that are stored.
 struct Sums {
@@ -46,6 +49,7 @@ fn write_data(bytes: &[u8], table: &[u16], characters: &mut [u16]) -> Sums
 pub fn write(bytes: &[u8], characters: &mut [u16]) -> Written
     ensures answer { λ r. ⌜ toldWritten r ≡ writeAnswer (length (now (bytes .entry))) (length (now (characters .entry))) ⌝ }
     ensures output { λ r. ⌜ now (characters .exit) ≡ outputAfter (toldWritten r) (writtenRecord (now (bytes .entry))) (now (characters .entry)) ⌝ }
+    ensures terms { λ r. ⌜ Terms (Call.write bpi800 (now (bytes .entry))) (toldWritten r) (now (characters .entry)) (now (characters .exit)) ⌝ }
 {
     let n = bytes.len();
     if n == 0 {

@@ -28,7 +28,7 @@ returns c =
     let bytes = args .bytes .now in
     let held = args .words .now in
     λ h.
-    written .ensures .1
+    written .ensures .1 .0
     ∙ ap (λ (a : Answer). outputAfter a (writtenRecord (take (args .count) bytes)) held)
     (written .ensures .0 ∙ ap (λ (n : ℕ). writeAnswer n (length held)) (length-take-le (args .count) bytes h))
 

@@ -1,21 +1,24 @@
 -- `head_order::to_algebraic::map` meets its contract: the map's nine bits move as nine words do.
 -- Assumes nothing.
 use mathlib.Core.Path.{ap, _∙_}
-use mathlib.Core.List.{[], _∷_}
-use Prim.Native.Nat.{ℕ}
+use mathlib.Core.List.{[]}
 use borrow.Author.Needs.{needs}
-use borrow.Author.Tests.{le-leb, lt-leb}
 use Rattle.register.specs.Bit.{ofBits}
-use Rattle.answer.specs.Answer.{delivered}
-use Rattle.track_order.specs.Moved.{mapAnswer}
-use Rattle.track_order.specs.Order.{order, inverse, toAlgebraic, mapToAlgebraic}
+use Rattle.track_order.proofs.Moved.{map-refused, map-delivered}
+use Rattle.track_order.specs.Order as Order
+use Rattle.track_order.specs.Order.{order, inverse, toAlgebraic}
+use Rattle.terms.proofs.Terms.{terms-hold, nothing-stored}
+use Rattle.terms.specs.Call.{mapToAlgebraic, answerTo, resultOf}
 use Rattle.head_order.proofs.Moved.{array-arranged, array-digits}
 use Rattle.head_order.proofs.to_algebraic.map.Statement.{statement}
 use Rattle.head_order.proofs.to_algebraic.map.Tie as tie
 
 returns : tie.Need-returns
-unfolding mapAnswer
-returns c = simp (lt-leb _ _ (c .if1 .taken))
+unfolding answerTo resultOf
+returns c =
+    let m = c .before .args .map in
+    let answers = map-refused Order.mapToAlgebraic m (c .if1 .taken) in
+    (answers, terms-hold _ [] [] (mapToAlgebraic m) answers (nothing-stored _))
 
 bits-requires : tie.Need-bits-requires
 bits-requires c κs = search needs
@@ -38,12 +41,15 @@ map-of-requires c κs =
     array-digits (inverse order) _ _ _ (c .before .before .before .before .before .bits .ensures) (c .before .before .arrange .ensures)
 
 returns-2 : tie.Need-returns-2
-unfolding mapAnswer mapToAlgebraic toAlgebraic
+unfolding Order.mapToAlgebraic toAlgebraic answerTo resultOf
 returns-2 c =
-    simp (le-leb _ _ (c .before .before .before .before .before .before .before .if1 .left))
-    (ap (λ (m : ℕ). delivered (m ∷ []))
+    let start = c .before .before .before .before .before .before .before .before in
+    let m = start .args .map in
+    let answers =
+    map-delivered Order.mapToAlgebraic m (c .before .before .before .before .before .before .before .if1 .left) (c .map-of .result)
     (c .map-of .ensures
-    ∙ ap ofBits (array-arranged (inverse order) _ _ _ (c .before .before .before .before .before .before .bits .ensures) (c .before .before .before .arrange .ensures))))
+    ∙ ap ofBits (array-arranged (inverse order) _ _ _ (c .before .before .before .before .before .before .bits .ensures) (c .before .before .before .arrange .ensures))) in
+    (answers, terms-hold _ [] [] (mapToAlgebraic m) answers (nothing-stored _))
 
 pub map-spec : {M : Type 1} → statement M
 map-spec =

@@ -4,6 +4,8 @@ use borrow.Author.Needs.{needs}
 use denote.Ref.{now}
 use Rattle.track_order.specs.Order.{order, inverse, toAlgebraic}
 use Rattle.track_order.proofs.Order.{length-arranged}
+use Rattle.terms.proofs.Terms.{with-terms}
+use Rattle.terms.specs.Call.{wordsToAlgebraic, answerTo, resultOf}
 use Rattle.head_order.proofs.Moved.{delivered-sizes, delivered-output, refused-output}
 use Rattle.head_order.proofs.to_algebraic.words.Statement.{statement}
 use Rattle.head_order.proofs.to_algebraic.words.Tie as tie
@@ -26,22 +28,21 @@ same-length : tie.Need-same-length
 same-length c = search needs
 
 returns : tie.Need-returns
-unfolding toAlgebraic
+unfolding toAlgebraic answerTo resultOf
 returns c =
     let called = c .before .before .before .before .before .before .checked in
-    let args = c .before .before .before .before .before .before .before .before .before .args in (
-      called .ensures,
-      delivered-output (toAlgebraic (now (args .source))) (now (args .target)) _ (length-arranged (inverse order) (now (args .source))) (called .result)
-          (c .before .before .before .before .enum-told .given .1) (c .before .before .arrange .ensures),
-    )
+    let args = c .before .before .before .before .before .before .before .before .before .args in
+    with-terms _ _ _ (wordsToAlgebraic (now (args .source))) (called .ensures)
+    (delivered-output (toAlgebraic (now (args .source))) (now (args .target)) _ (length-arranged (inverse order) (now (args .source))) (called .result)
+    (c .before .before .before .before .enum-told .given .1) (c .before .before .arrange .ensures))
 
 returns-2 : tie.Need-returns-2
+unfolding answerTo resultOf
 returns-2 c =
     let called = c .before .before .checked in
-    let args = c .before .before .before .before .before .args in (
-      called .ensures,
-      refused-output (toAlgebraic (now (args .source))) (now (args .target)) (called .result) _ (c .enum-told2 .given .1),
-    )
+    let args = c .before .before .before .before .before .args in
+    with-terms _ _ _ (wordsToAlgebraic (now (args .source))) (called .ensures)
+    (refused-output (toAlgebraic (now (args .source))) (now (args .target)) (called .result) _ (c .enum-told2 .given .1))
 
 pub words-spec : {M : Type 1} → statement M
 words-spec =

@@ -1,11 +1,10 @@
 -- `rindthok::at6250::rindthok_write6250` meets its contract, by what `write` and `written_status` ensure.
 -- Assumes nothing.
-use mathlib.Core.Path.{ap, _∙_}
 use borrow.Author.Needs.{needs}
 use denote.Ref.{now}
-use Rattle.answer.specs.Answer.{Answer, outputAfter}
-use Rattle.record6250.specs.Record.{writtenRecord}
-use Rattle.rindthok.specs.Status.{status, placeTold, valueAfter}
+use Rattle.terms.specs.Call.{write, answerTo, resultOf}
+use Rattle.terms.specs.Reading.{bpi6250, writtenRecord}
+use Rattle.rindthok.proofs.Called.{called}
 use Rattle.rindthok.proofs.at6250.rindthok_write6250.Statement.{statement}
 use Rattle.rindthok.proofs.at6250.rindthok_write6250.Tie as tie
 
@@ -19,20 +18,11 @@ same-length : tie.Need-same-length
 same-length c = search needs
 
 returns : tie.Need-returns
+unfolding answerTo resultOf writtenRecord
 returns c =
     let args = c .before .before .before .before .before .before .before .before .before .args in
-    let called = c .before .before .before .before .before .write in
-    let told = called .ensures .0 in
-    let answer = c .written-status .ensures in (
-      answer .0 ∙ ap status told,
-      (
-        answer .1 .0 ∙ ap placeTold told,
-        (
-          answer .1 .1 ∙ ap (λ (a : Answer). valueAfter a 0 (now (args .groups))) told,
-          called .ensures .1 ∙ ap (λ (a : Answer). outputAfter a (writtenRecord (now (args .bytes))) (now (args .words))) told,
-        ),
-      ),
-    )
+    let done = c .before .before .before .before .before .write in
+    called (write bpi6250 (now (args .bytes))) _ _ _ _ _ _ _ (done .ensures .0) (done .ensures .1 .0) (c .written-status .ensures)
 
 pub rindthok-write6250-spec : {M : Type 1} → statement M
 rindthok-write6250-spec =

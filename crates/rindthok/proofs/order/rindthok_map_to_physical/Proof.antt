@@ -1,10 +1,10 @@
 -- `rindthok::order::rindthok_map_to_physical` meets its contract, by what the routine and `map_status` ensure.
 -- Assumes nothing.
-use mathlib.Core.Path.{ap, _∙_}
+use mathlib.Core.List.{[]}
 use borrow.Author.Needs.{needs}
-use denote.Ref.{now}
-use Rattle.answer.specs.Answer.{Answer}
-use Rattle.rindthok.specs.Status.{status, placeTold, valueAfter}
+use Rattle.terms.specs.Call.{mapToPhysical, answerTo, resultOf}
+use Rattle.terms.proofs.Terms.{nothing-stored}
+use Rattle.rindthok.proofs.Called.{called}
 use Rattle.rindthok.proofs.order.rindthok_map_to_physical.Statement.{statement}
 use Rattle.rindthok.proofs.order.rindthok_map_to_physical.Tie as tie
 
@@ -15,15 +15,10 @@ map-status-requires : tie.Need-map-status-requires
 map-status-requires c κs = search needs
 
 returns : tie.Need-returns
+unfolding answerTo resultOf
 returns c =
-    let told = c .before .before .before .map .ensures in
-    let before = now (c .before .before .before .before .args .moved) in (
-      c .map-status .ensures .0 ∙ ap status told,
-      (
-        c .map-status .ensures .1 .0 ∙ ap placeTold told,
-        c .map-status .ensures .1 .1 ∙ ap (λ (a : Answer). valueAfter a 0 before) told,
-      ),
-    )
+    let done = c .before .before .before .map in
+    called (mapToPhysical (c .before .before .before .before .args .map)) _ [] [] _ _ _ _ (done .ensures .0) (nothing-stored _) (c .map-status .ensures)
 
 pub rindthok-map-to-physical-spec : {M : Type 1} → statement M
 rindthok-map-to-physical-spec =

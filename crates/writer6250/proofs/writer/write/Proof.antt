@@ -11,13 +11,16 @@ use lib.ListN.{length}
 use Rattle.answer.specs.Answer.{outputAfter}
 use Rattle.record6250.specs.Record.{groupsFor, groupWords}
 use Rattle.record6250.specs.Written.{writeAnswer}
+use Rattle.terms.proofs.Terms.{with-terms}
+use Rattle.terms.specs.Call.{write, answerTo, resultOf}
+use Rattle.terms.specs.Reading.{bpi6250, writtenRecord}
 use Rattle.writer6250.proofs.Stored.{one-more, one-stored, all-stored}
 use Rattle.writer6250.proofs.writer.write.Statement.{statement}
 use Rattle.writer6250.proofs.writer.write.Tie as tie
 
 returns : tie.Need-returns
-unfolding writeAnswer outputAfter
-returns c = (simp (lt-leb _ _ (c .if1 .taken)), refl)
+unfolding writeAnswer outputAfter answerTo resultOf writtenRecord
+returns c = with-terms _ _ _ (write bpi6250 (now (c .before .before .before .args .bytes))) (simp (lt-leb _ _ (c .if1 .taken))) refl
 
 add-if2 : tie.Need-add-if2
 add-if2 c = search needs
@@ -26,11 +29,11 @@ mul-if2 : tie.Need-mul-if2
 mul-if2 c = search needs
 
 returns-2 : tie.Need-returns-2
-unfolding writeAnswer groupsFor outputAfter
+unfolding writeAnswer groupsFor outputAfter answerTo resultOf writtenRecord
 returns-2 c =
-    let size = length (now (c .before .before .before .before .args .bytes)) in
+    let bytes = now (c .before .before .before .before .args .bytes) in
     let space = length (now (c .before .before .before .before .args .words)) in
-    (simp (le-leb _ _ (c .before .if1 .left), lt-leb (9 * (size / 7 + 1)) space (omega arith)), refl)
+    with-terms _ _ _ (write bpi6250 bytes) (simp (le-leb _ _ (c .before .if1 .left), lt-leb (9 * (length bytes / 7 + 1)) space (omega arith))) refl
 
 write-groups-requires : tie.Need-write-groups-requires
 write-groups-requires c κs = search needs
@@ -66,19 +69,19 @@ same-length : tie.Need-same-length
 same-length c = search needs
 
 returns-3 : tie.Need-returns-3
-unfolding writeAnswer groupsFor outputAfter
+unfolding writeAnswer groupsFor outputAfter answerTo resultOf writtenRecord
 returns-3 c =
     let start = c .before .before .before .before .before .before .before .before .before .before .before .before .before .before in
     let bytes = now (start .args .bytes) in
     let size = length bytes in
     let words = now (start .args .words) in
-    let last = c .before .before .before .before .before .last-group in (
-      simp (le-leb _ _ (c .before .before .before .before .before .before .before .before .before .before .before .if1 .left), le-leb (9 * (size / 7 + 1)) (length words) (omega arith)),
-      one-more bytes words (size / 7) _ _ (groupWords (last .result)) (c .before .before .before .before .before .before .before .before .write-groups .ensures)
-          (ap groupWords (last .ensures))
-          (c .before .before .write-groups2 .ensures ∙ one-stored (last .result) _ (search needs))
-          ∙ all-stored bytes words,
-    )
+    let last = c .before .before .before .before .before .last-group in
+    with-terms _ _ _ (write bpi6250 bytes)
+    (simp (le-leb _ _ (c .before .before .before .before .before .before .before .before .before .before .before .if1 .left), le-leb (9 * (size / 7 + 1)) (length words) (omega arith)))
+    (one-more bytes words (size / 7) _ _ (groupWords (last .result)) (c .before .before .before .before .before .before .before .before .write-groups .ensures)
+    (ap groupWords (last .ensures))
+    (c .before .before .write-groups2 .ensures ∙ one-stored (last .result) _ (search needs))
+    ∙ all-stored bytes words)
 
 pub write-spec : {M : Type 1} → statement M
 write-spec =

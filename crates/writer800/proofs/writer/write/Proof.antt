@@ -10,28 +10,32 @@ use lib.ListN.{length, getD, set, length-set}
 use Rattle.register.specs.Xor.{_⊕_}
 use Rattle.answer.specs.Answer.{outputAfter}
 use Rattle.writer800.specs.Written.{stored}
+use Rattle.terms.proofs.Terms.{with-terms}
+use Rattle.terms.specs.Call.{write, answerTo, resultOf}
+use Rattle.terms.specs.Reading.{bpi800, writtenRecord}
 use Rattle.writer800.proofs.Writing.{empty-refused, long-refused, space-refused, written-answer, check-fits, check-is, length-stored, all-stored}
 use Rattle.writer800.proofs.writer.write.Statement.{statement}
 use Rattle.writer800.proofs.writer.write.Tie as tie
 
 returns : tie.Need-returns
-unfolding outputAfter
-returns c = (sym (empty-refused _ _ (c .if1 .taken)), refl)
+unfolding outputAfter answerTo resultOf writtenRecord
+returns c = with-terms _ _ _ (write bpi800 (now (c .before .before .before .args .bytes))) (sym (empty-refused _ _ (c .if1 .taken))) refl
 
 returns-2 : tie.Need-returns-2
-unfolding outputAfter
+unfolding outputAfter answerTo resultOf writtenRecord
 returns-2 c =
-    let size = length (now (c .before .before .before .before .args .bytes)) in
-    (sym (long-refused size _ (omega (arith, c .before .if1 .left)) (c .if2 .taken)), refl)
+    let bytes = now (c .before .before .before .before .args .bytes) in
+    with-terms _ _ _ (write bpi800 bytes) (sym (long-refused (length bytes) _ (omega (arith, c .before .if1 .left)) (c .if2 .taken))) refl
 
 add-if3 : tie.Need-add-if3
 add-if3 c = search needs
 
 returns-3 : tie.Need-returns-3
-unfolding outputAfter
+unfolding outputAfter answerTo resultOf writtenRecord
 returns-3 c =
-    let size = length (now (c .before .before .before .before .before .args .bytes)) in
-    (sym (space-refused size _ (omega (arith, c .before .before .if1 .left)) (c .before .if2 .left) (c .if3 .taken)), refl)
+    let bytes = now (c .before .before .before .before .before .args .bytes) in
+    with-terms _ _ _ (write bpi800 bytes)
+    (sym (space-refused (length bytes) _ (omega (arith, c .before .before .if1 .left)) (c .before .if2 .left) (c .if3 .taken))) refl
 
 data-characters-requires : tie.Need-data-characters-requires
 data-characters-requires c κs = search needs
@@ -82,7 +86,7 @@ same-length : tie.Need-same-length
 same-length c = search needs
 
 returns-4 : tie.Need-returns-4
-unfolding outputAfter
+unfolding outputAfter answerTo resultOf writtenRecord
 returns-4 c =
     let data-written = c .before .before .before .before in
     let tests = data-written .before .before .before .before in
@@ -90,13 +94,13 @@ returns-4 c =
     let bytes = now (args .bytes) in
     let below : (k : ℕ) → getD bytes k 0 < 256 = λ k. omega (arith, tests .before .before .before .before .shared-slice-known .given k .fits) in
     let sums = data-written .write-data in
-    let check = c .before .shift .result ⊕ 471 in (
-      sym (written-answer (length bytes) _ (omega (arith, tests .before .before .if1 .left)) (tests .before .if2 .left) (tests .if3 .left)),
-      ap (λ (l : List ℕ). set (set l (length bytes) check) (length bytes + 1) (sums .result .longitudinal ⊕ check)) (sums .ensures .0)
-          ∙ all-stored bytes below (now (args .characters)) check _ (tests .if3 .left)
-          (ap (λ (x : ℕ). x ⊕ 471) (c .before .shift .ensures) ∙ check-is bytes below (sums .result .check) (sums .ensures .1 .0))
-          (ap (λ (x : ℕ). x ⊕ check) (sums .ensures .1 .1)),
-    )
+    let check = c .before .shift .result ⊕ 471 in
+    with-terms _ _ _ (write bpi800 bytes)
+    (sym (written-answer (length bytes) _ (omega (arith, tests .before .before .if1 .left)) (tests .before .if2 .left) (tests .if3 .left)))
+    (ap (λ (l : List ℕ). set (set l (length bytes) check) (length bytes + 1) (sums .result .longitudinal ⊕ check)) (sums .ensures .0)
+    ∙ all-stored bytes below (now (args .characters)) check _ (tests .if3 .left)
+    (ap (λ (x : ℕ). x ⊕ 471) (c .before .shift .ensures) ∙ check-is bytes below (sums .result .check) (sums .ensures .1 .0))
+    (ap (λ (x : ℕ). x ⊕ check) (sums .ensures .1 .1)))
 
 pub write-spec : {M : Type 1} → statement M
 write-spec =

@@ -1,0 +1,26 @@
+-- `reader800::reader::read_forward` meets its contract: the answer and the output are what `read` ensures, and the terms follow.
+-- Assumes nothing.
+use mathlib.Core.Bool.{false}
+use borrow.Author.Needs.{needs}
+use denote.Ref.{now}
+use Rattle.terms.proofs.Terms.{with-terms}
+use Rattle.terms.specs.Call.{read, answerTo, resultOf}
+use Rattle.terms.specs.Reading.{at800, readAnswer, readData}
+use Rattle.reader800.proofs.reader.read_forward.Statement.{statement}
+use Rattle.reader800.proofs.reader.read_forward.Tie as tie
+
+read-requires : tie.Need-read-requires
+read-requires c κs = search needs
+
+same-length : tie.Need-same-length
+same-length c = search needs
+
+returns : tie.Need-returns
+unfolding answerTo resultOf readAnswer readData
+returns c =
+    let called = c .before .before in
+    let args = called .before .before .before .before .args in
+    with-terms _ _ _ (read (at800 false (now (args .characters)))) (called .read .ensures .0) (called .read .ensures .1)
+
+pub read-forward-spec : {M : Type 1} → statement M
+read-forward-spec = tie.close (tie.spec read-requires same-length returns)
