@@ -76,3 +76,8 @@ written-passed size space figures e =
     let enough = test-held (leb (9 * groupsFor size) space) (delivered (groupsFor size ∷ [])) 2 0 figures (test-held (leb size mostData) _ 1 0 figures e .1) in
     let told : delivered (groupsFor size ∷ []) ≡ delivered figures = enough .1 in
     (cc, leb-true _ _ (enough .0))
+
+-- and data within the limits are delivered, if there is space
+pub write-delivers : (size space : ℕ) → size ≤ mostData → 9 * groupsFor size ≤ space → writeAnswer size space ≡ delivered (groupsFor size ∷ [])
+unfolding writeAnswer
+write-delivers size space within enough = simp (le-leb size mostData within, le-leb (9 * groupsFor size) space enough)

@@ -81,6 +81,11 @@ written-passed size space figures e =
     let told : delivered ((size + 2) ∷ []) ≡ delivered figures = enough .1 in
     (cc, leb-true _ _ (enough .0))
 
+-- and data within the limits are delivered, if there is space
+pub write-delivers : (size space : ℕ) → 1 ≤ size → size ≤ mostData → size + 2 ≤ space → writeAnswer size space ≡ delivered ((size + 2) ∷ [])
+unfolding writeAnswer
+write-delivers size space some within enough = simp (le-leb 1 size some, le-leb size mostData within, le-leb (size + 2) space enough)
+
 pub length-data : (n : ℕ) (l : List ℕ) → length (judgedData n l) ≡ n
 unfolding judgedData
 length-data n l = length-tabulate n _

@@ -106,6 +106,14 @@ record-counted bpi800 bytes space figures after e =
     ap (λ (l : List ℕ). take (getD l 0 0) after) (eightAnswer.written-passed (length bytes) space figures e .0)
     ∙ ap (λ (n : ℕ). take n after) (sym (eightRecord.length-record bytes))
 
+written-delivered : (d : Density) (bytes : List ℕ) (space : ℕ) → IsData d bytes → length (writtenRecord d bytes) ≤ space
+    → (figures : List ℕ) × (answerTo (write d bytes) space ≡ delivered figures)
+unfolding answerTo IsData writtenRecord
+written-delivered bpi6250 bytes space is-data enough =
+    (_, sixAnswer.write-delivers (length bytes) space (is-data .within) (omega (arith, sixRecord.length-record bytes)))
+written-delivered bpi800 bytes space is-data enough =
+    (_, eightAnswer.write-delivers (length bytes) space (is-data .some) (is-data .within) (omega (arith, eightRecord.length-record bytes)))
+
 module _ (d : Density) (bytes : List ℕ) (answer : Answer) (before after : List ℕ) (answers : answer ≡ answerTo (write d bytes) (length before))
     (stores : after ≡ outputAfter answer (writtenRecord d bytes) before) where
   is-written : (figures : List ℕ) → answer ≡ delivered figures → recordStored d figures after ≡ writtenRecord d bytes
@@ -114,8 +122,9 @@ module _ (d : Density) (bytes : List ℕ) (answer : Answer) (before after : List
       ∙ ap (take (length (writtenRecord d bytes))) (output-of answer figures (writtenRecord d bytes) before after e stores)
       ∙ take-append-seam (writtenRecord d bytes) _
 
-  pub writes : Writes d bytes answer after
+  pub writes : Writes d bytes answer before after
   writes = record {
+    is-delivered = λ is-data enough. let w = written-delivered d bytes (length before) is-data enough in (w .0, answers ∙ w .1);
     is-record = is-written;
     reads-back = λ is-data figures e backward space.
         subst (λ (l : List ℕ). Enough (undamaged d backward l) space → ReadBack d bytes (undamaged d backward l) space)

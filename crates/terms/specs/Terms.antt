@@ -29,16 +29,18 @@ unfoldable pub recordStored : Density → List ℕ → List ℕ → List ℕ
 recordStored bpi6250 figures after = take (9 * getD figures 0 0) after
 recordStored bpi800 figures after = take (getD figures 0 0) after
 
--- "A written record, read undamaged, with space enough and no track pointed, gives its data with no change counted." Of a writer: data within
--- the limits, if there is space, and what it left, read forward or backward.
-pub record Writes (d : Density) (bytes : List ℕ) (answer : Answer) (after : List ℕ) : Type 0 where
+-- "What is written is what [the papers] prescribe. A written record, read undamaged, with space enough and no track pointed, gives its data
+-- with no change counted." Of a writer: data within the limits are delivered, if there is space for their record; what stands at the front is
+-- that record; and a reader, forward or backward, delivers the data from there.
+pub record Writes (d : Density) (bytes : List ℕ) (answer : Answer) (before after : List ℕ) : Type 0 where
+  pub is-delivered : IsData d bytes → length (writtenRecord d bytes) ≤ length before → (figures : List ℕ) × (answer ≡ delivered figures)
   pub is-record : (figures : List ℕ) → answer ≡ delivered figures → recordStored d figures after ≡ writtenRecord d bytes
   pub reads-back : IsData d bytes → (figures : List ℕ) → answer ≡ delivered figures → (backward : Bool) (space : ℕ)
       → Enough (undamaged d backward (recordStored d figures after)) space
       → (readAnswer (undamaged d backward (recordStored d figures after)) space ≡ delivered (unchanged d (length bytes)))
       × (readData (undamaged d backward (recordStored d figures after)) ≡ bytes)
 
--- The same of a reader. "A record read forward with no change, when its data are written, gives the words or characters that were read.
+-- Of a reader, the same; and "A record read forward with no change, when its data are written, gives the words or characters that were read.
 -- Reading backward answers as reading forward does."
 pub record Reads (r : Reading) (answer : Answer) (before after : List ℕ) : Type 0 where
   pub undamaged-read : (bytes : List ℕ) → IsData (density r) bytes → r ≡ undamaged (density r) (isBackward r) (writtenRecord (density r) bytes)
@@ -48,7 +50,7 @@ pub record Reads (r : Reading) (answer : Answer) (before after : List ℕ) : Typ
   pub as-turned : (answer ≡ readAnswer (turned r) (length before)) × (after ≡ outputAfter answer (readData (turned r)) before)
 
 unfoldable pub SecondTerm : Call → Answer → List ℕ → List ℕ → Type 0
-SecondTerm (write d bytes) answer before after = Writes d bytes answer after
+SecondTerm (write d bytes) answer before after = Writes d bytes answer before after
 SecondTerm (read r) answer before after = Reads r answer before after
 SecondTerm (wordsToPhysical source) answer before after = Unit
 SecondTerm (wordsToAlgebraic source) answer before after = Unit
