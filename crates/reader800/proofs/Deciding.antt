@@ -3,18 +3,17 @@
 use mathlib.Core.Path.{_≡_, refl, sym, ap, ap₂, _∙_}
 use mathlib.Core.Bool.{Bool, cond, _&&_}
 use mathlib.Core.List.{List, [], _∷_}
-use Prim.Native.Nat.{ℕ, zero, suc, _+_, _-_, _*_, _%_, _^_, _<_}
+use Prim.Native.Nat.{ℕ, _+_, _-_, _*_, _%_, _^_, _<_}
 use native.Mathlib.Omega.{arith}
 use borrow.Author.Tests.{eq-eqb, ne-eqb}
 use lib.Bits.{xor-zero-r}
 use lib.Dec.{eqb}
 use lib.ListN.{length, getD}
-use Rattle.indexed.specs.List.{tabulate, below, keep, total}
+use Rattle.indexed.specs.List.{tabulate, below, keep}
 use Rattle.indexed.proofs.Tabulate.{tabulate-same}
-use Rattle.indexed.proofs.Test.{equal₂}
 use Rattle.register.specs.Shift.{shifts}
-use Rattle.register.specs.Sum.{xorSum}
 use Rattle.register.specs.Xor.{_⊕_}
+use Rattle.register.proofs.Parity.{sum-digits}
 use Rattle.register.proofs.Shift.{shifts-add, shifts-zero}
 use Rattle.register.proofs.Sum.{sum-zero}
 use Rattle.answer.specs.Answer.{delivered, refused}
@@ -30,19 +29,10 @@ use Rattle.record800.proofs.Judged.{Judged, clean, one, several, none, judged, 
 use Rattle.record800.proofs.Registers.{sum-fits}
 use Rattle.answer.proofs.Apart.{not-both}
 
--- the parity of a count of digits
-half-step : (t d : ℕ) → d < 2 → (t % 2) ⊕ d ≡ (t + d) % 2
-half-step t d h = equal₂ 2 2 (λ r d. r ⊕ d) (λ r d. (r + d) % 2) tt (t % 2) d (omega arith) h ∙ omega arith
-
-sum-of-digits : (m : ℕ) (d : ℕ → ℕ) → ((k : ℕ) → d k < 2) → xorSum m d ≡ total m d % 2
-unfolding xorSum total
-sum-of-digits zero d h = refl
-sum-of-digits (suc m) d h = ap (λ (x : ℕ). x ⊕ d m) (sum-of-digits m d h) ∙ half-step (total m d) (d m) (h m)
-
 module _ (n : ℕ) (l : List ℕ) where
   parity-of-count : wrongParity n l ≡ wrongCount n l % 2
   unfolding wrongParity wrongCount
-  parity-of-count = sum-of-digits (n + 2) (wrong n l) (wrong-lt n l)
+  parity-of-count = sum-digits (n + 2) (wrong n l) (λ k h. wrong-lt n l k)
 
   pub pattern-lt : errorPattern n l < 512
   unfolding errorPattern

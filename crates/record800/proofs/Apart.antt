@@ -15,10 +15,9 @@ use Rattle.register.specs.Parity.{parity}
 use Rattle.register.specs.Xor.{_⊕_}
 use Rattle.register.proofs.Bit.{bit-lt}
 use Rattle.register.proofs.Expand.{bit-xor, places}
+use Rattle.register.proofs.Parity.{parity-xor, parity-place}
 use Rattle.register.proofs.Sum.{sum-one}
 use Rattle.register.proofs.Xor.{digit-ind, xor-cancel}
-use Rattle.record800.proofs.Candidate.{parity-place}
-use Rattle.record800.proofs.Recorded.{xor-parity}
 
 -- ---- a digit at a place, by computing all of them
 
@@ -70,9 +69,9 @@ module _ (a b j : ℕ) (ha : a < 512) (hb : b < 512) (hj : j < 9) (agree : (i : 
   -- so the parities tell that bit
   bit-is : bit j (a ⊕ b) ≡ parity a ⊕ parity b
   bit-is =
-      sym (parity-place (bit j (a ⊕ b)) j (bit-lt j (a ⊕ b)) hj)
+      sym (parity-place (bit j (a ⊕ b)) j (bit-lt j (a ⊕ b)))
       ∙ sym (ap parity sum-is)
-      ∙ xor-parity a b
+      ∙ parity-xor a b
 
   pub one-apart : b ≡ a ⊕ (parity a ⊕ parity b) * 2 ^ j
   one-apart = sym (xor-cancel a b) ∙ ap (λ (x : ℕ). a ⊕ x) (sum-is ∙ ap (λ (d : ℕ). d * 2 ^ j) bit-is)

@@ -15,26 +15,22 @@ use lib.ListN.{getD}
 use lib.Pow.{pow-lt}
 use Rattle.indexed.specs.List.{tabulate, total}
 use Rattle.indexed.proofs.Test.{equal₂}
-use Rattle.register.specs.Parity.{parity, parityDigits}
+use Rattle.register.specs.Parity.{parity}
 use Rattle.register.specs.Shift.{shift, shifts}
 use Rattle.register.specs.Sum.{xorSum}
 use Rattle.register.specs.Xor.{_⊕_}
 use Rattle.register.proofs.Expand.{digit-place-lt}
 use Rattle.register.proofs.Linear.{shl-xor, linear-sum}
-use Rattle.register.proofs.Parity.{parity-lt}
+use Rattle.register.proofs.Parity.{parity-lt, parity-xor, parity-place}
 use Rattle.register.proofs.Shift.{shifts-lt, shifts-xor, shifts-add, shifts-zero}
 use Rattle.register.proofs.Sum.{sum-ext, sum-zero, sum-xor, shifts-sum}
 use Rattle.register.proofs.Xor.{digit-ind, odd-lt, xor-cancel, xor-zero→eq}
 use Rattle.cyclic.specs.Constants.{feedback, offset}
 use Rattle.record800.specs.Read.{expectedParity, wrong, checkRead, errorPattern, longitudinalRead, wrongParity, wrongCount, candidate, holds}
 use Rattle.record800.specs.Record.{checkSum, writtenRecord}
-use Rattle.record800.proofs.Recorded.{xor-parity, written-if}
+use Rattle.record800.proofs.Recorded.{written-if}
 
 -- ---- a digit at a place, by computing all of them
-
-pub parity-place : (d j : ℕ) → d < 2 → j < 9 → parity (d * 2 ^ j) ≡ d
-unfolding parity parityDigits
-parity-place = equal₂ 2 9 (λ d j. parity (d * 2 ^ j)) (λ d j. d) tt
 
 shifts-place : (d j : ℕ) → d < 2 → j < 9 → d * 2 ^ j ≡ shifts 9 feedback j d
 unfolding shifts shift
@@ -111,8 +107,8 @@ module _ (n : ℕ) (l : List ℕ) where
     pub candidate-parity : (k : ℕ) → parity (candidate n l j k) ≡ expectedParity n l k
     unfolding candidate wrong
     candidate-parity k =
-        xor-parity (getD l k 0) (wrong n l k * 2 ^ j)
-        ∙ ap (λ (p : ℕ). parity (getD l k 0) ⊕ p) (parity-place (wrong n l k) j (wrong-lt k) is-track)
+        parity-xor (getD l k 0) (wrong n l k * 2 ^ j)
+        ∙ ap (λ (p : ℕ). parity (getD l k 0) ⊕ p) (parity-place (wrong n l k) j (wrong-lt k))
         ∙ xor-cancel (parity (getD l k 0)) (expectedParity n l k)
 
     -- bit j of character k is X^j, and powers of X commute

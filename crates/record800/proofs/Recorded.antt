@@ -4,13 +4,13 @@ use mathlib.Core.Path.{_≡_, refl, sym, ap, ap₂, _∙_}
 use mathlib.Core.Bool.{Bool, cond}
 use mathlib.Core.List.{List, [], _∷_, _++_, map}
 use mathlib.Core.Logic.{_⊎_, inl, inr}
-use Prim.Native.Nat.{ℕ, zero, suc, _+_, _-_, _%_, _<_}
+use Prim.Native.Nat.{ℕ, suc, _+_, _-_, _%_, _<_}
 use native.Mathlib.Nat.{zero-lt-suc}
 use native.Mathlib.Decide.{decLt, ℕ-discrete}
 use native.Mathlib.Numerals.{add-one}
 use native.Mathlib.Omega.{arith}
 use borrow.Author.Tests.{eq-eqb, ne-eqb}
-use lib.Bits.{differ, xor-lt, xor-self}
+use lib.Bits.{xor-lt, xor-self}
 use lib.Dec.{eqb, ltb, ltb→lt, lit<}
 use lib.ListN.{length, getD, length-append, length-map, List·getD-append, List·getD-eq-default}
 use lib.Seq.{ext-getD, getD-at}
@@ -19,14 +19,15 @@ use Rattle.indexed.proofs.Map.{getD-map}
 use Rattle.indexed.proofs.Tabulate.{length-tabulate, getD-tabulate}
 use Rattle.indexed.proofs.Test.{tested, equal}
 use Rattle.register.specs.Parity.{parity, parityDigits}
-use Rattle.register.specs.Shift.{shift, shifts}
+use Rattle.register.specs.Shift.{shifts}
 use Rattle.register.specs.Sum.{xorSum}
 use Rattle.register.specs.Xor.{_⊕_}
-use Rattle.register.proofs.Parity.{parity-lt, parity-xor}
+use Rattle.register.proofs.Parity.{parity-xor, shifts-parity, odd-more, sum-odd}
 use Rattle.register.proofs.Shift.{shifts-lt}
 use Rattle.register.proofs.Sum.{sum-ext, sum-lt, sum-last}
-use Rattle.register.proofs.Xor.{digit, digit-ind, odd-lt, xor-cancel, xor-zero→eq}
+use Rattle.register.proofs.Xor.{xor-cancel, xor-zero→eq}
 use Rattle.cyclic.specs.Constants.{feedback, offset}
+use Rattle.cyclic.proofs.Constants.{feedback-odd, offset-odd}
 use Rattle.record800.specs.Read.{expectedParity}
 use Rattle.record800.specs.Record.{characterOf, checkSum, checkCharacter, longitudinal, withCheck, writtenRecord}
 
@@ -54,49 +55,6 @@ odd-character c h e =
     choose : ℕ → ℕ → ℕ → ℕ
     choose p c d = cond (eqb p 1) d c
 
-pub shift-parity : (a : ℕ) → a < 512 → parity (shift 9 feedback a) ≡ parity a
-unfolding shift parity parityDigits
-shift-parity = equal 512 (λ a. parity (shift 9 feedback a)) parity tt
-
-pub shifts-parity : (k a : ℕ) → a < 512 → parity (shifts 9 feedback k a) ≡ parity a
-unfolding shifts
-shifts-parity zero a h = refl
-shifts-parity (suc k) a h = shift-parity (shifts 9 feedback k a) (shifts-lt 9 feedback k a (lit< tt) h) ∙ shifts-parity k a h
-
-offset-parity : parity offset ≡ 1
-unfolding parity parityDigits
-offset-parity = refl
-
--- ---- the parity of a sum
-
-differ-digits : (x y : ℕ) → x < 2 → y < 2 → differ x y ≡ x ⊕ y
-differ-digits x y hx hy =
-    digit-ind (λ (x : ℕ). differ x y ≡ x ⊕ y) refl (digit-ind (λ (y : ℕ). differ 1 y ≡ 1 ⊕ y) refl refl y hy) x hx
-
-pub xor-parity : (a b : ℕ) → parity (a ⊕ b) ≡ parity a ⊕ parity b
-xor-parity a b = parity-xor a b ∙ differ-digits (parity a) (parity b) (parity-lt a) (parity-lt b)
-
-pub sum-parity : (n : ℕ) (g : ℕ → ℕ) → parity (xorSum n g) ≡ xorSum n (λ k. parity (g k))
-unfolding xorSum parity parityDigits
-sum-parity zero g = refl
-sum-parity (suc n) g = xor-parity (xorSum n g) (g n) ∙ ap (λ (x : ℕ). x ⊕ parity (g n)) (sum-parity n g)
-
-one-more : (n : ℕ) → (n % 2) ⊕ 1 ≡ (n + 1) % 2
-one-more n = by (digit (n % 2) (odd-lt n))
-  where
-    by : (n % 2 ≡ 0) ⊎ (n % 2 ≡ 1) → (n % 2) ⊕ 1 ≡ (n + 1) % 2
-    by (inl e) = ap (λ (x : ℕ). x ⊕ 1) e ∙ omega arith
-    by (inr e) = ap (λ (x : ℕ). x ⊕ 1) e ∙ omega arith
-
-sum-ones : (n : ℕ) → xorSum n (λ k. 1) ≡ n % 2
-unfolding xorSum
-sum-ones zero = refl
-sum-ones (suc n) = ap (λ (x : ℕ). x ⊕ 1) (sum-ones n) ∙ one-more n ∙ ap (λ (m : ℕ). m % 2) (add-one n)
-
--- of n odd terms
-pub sum-odd : (n : ℕ) (g : ℕ → ℕ) → ((k : ℕ) → k < n → parity (g k) ≡ 1) → parity (xorSum n g) ≡ n % 2
-sum-odd n g h = sum-parity n g ∙ sum-ext n (λ k. parity (g k)) (λ k. 1) h ∙ sum-ones n
-
 -- ---- sums with their last term apart
 
 sum-one-more : (n : ℕ) (g : ℕ → ℕ) → xorSum (n + 1) g ≡ xorSum n g ⊕ g n
@@ -122,7 +80,7 @@ data-sum-lt n c h = sum-lt 9 n _ (λ k b. shifts-lt 9 feedback (n - k) (c k) (li
 data-sum-parity : (n : ℕ) (c : ℕ → ℕ) → ((k : ℕ) → k < n → c k < 512) → ((k : ℕ) → k < n → parity (c k) ≡ 1)
     → parity (dataSum n c) ≡ n % 2
 unfolding dataSum
-data-sum-parity n c h odd = sum-odd n _ (λ k b. shifts-parity (n - k) (c k) (h k b) ∙ odd k b)
+data-sum-parity n c h odd = sum-odd n _ (λ k b. shifts-parity 9 feedback feedback-odd (n - k) (c k) (lit< tt) (h k b) ∙ odd k b)
 
 -- the last character of a check sum is its term with power 0
 pub check-sum-last : (n : ℕ) (c : ℕ → ℕ) → checkSum (n + 1) c ≡ dataSum n c ⊕ c n
@@ -253,16 +211,17 @@ module _ (bytes : List ℕ) (below : (k : ℕ) → getD bytes k 0 < 256) where
   pub check-parity : parity (checkCharacter (map characterOf bytes)) ≡ (length bytes + 1) % 2
   check-parity =
       ap parity (check-is bytes)
-      ∙ xor-parity _ offset
-      ∙ ap₂ _⊕_ (data-sum-parity (length bytes) _ data-lt data-parity) offset-parity
-      ∙ one-more (length bytes)
+      ∙ parity-xor _ offset
+      ∙ ap₂ _⊕_ (data-sum-parity (length bytes) _ data-lt data-parity) offset-odd
+      ∙ odd-more (length bytes) 1 (lit< tt)
 
   -- and the longitudinal one is odd
   pub longitudinal-parity : parity (longitudinal (withCheck (map characterOf bytes))) ≡ 1
   longitudinal-parity =
       ap parity (longitudinal-is bytes ∙ sum-one-more (length bytes) _)
-      ∙ xor-parity _ (getD (writtenRecord bytes) (length bytes) 0)
-      ∙ ap₂ _⊕_ (sum-odd (length bytes) _ data-parity) (ap parity (record-check bytes) ∙ check-parity ∙ sym (one-more (length bytes)))
+      ∙ parity-xor _ (getD (writtenRecord bytes) (length bytes) 0)
+      ∙ ap₂ _⊕_ (sum-odd (length bytes) _ data-parity)
+      (ap parity (record-check bytes) ∙ check-parity ∙ sym (odd-more (length bytes) 1 (lit< tt)))
       ∙ xor-cancel (length bytes % 2) 1
 
   pub record-parity : (l : List ℕ) (k : ℕ) → k < length bytes + 2

@@ -13,7 +13,7 @@ use Rattle.register.specs.Shift.{shift, shifts}
 use Rattle.register.proofs.Xor.{digit-ind, xor-swap}
 
 -- the digit that a shift pushes out
-top-lt : (w a : ℕ) → a < 2 ^ w → 2 * a / 2 ^ w < 2
+pub top-lt : (w a : ℕ) → a < 2 ^ w → 2 * a / 2 ^ w < 2
 top-lt w a h = div-lt-iff-lt-mul (pow-pos w) .1 (omega arith)
 
 times-digit-lt : (w f d : ℕ) → f < 2 ^ w → d < 2 → d * f < 2 ^ w
