@@ -3,30 +3,28 @@
 use mathlib.Core.Path.{_≡_, refl, sym, ap, ap₂, _∙_}
 use mathlib.Core.Bool.{Bool, cond, _&&_}
 use mathlib.Core.List.{List, [], _∷_}
-use Prim.Native.Nat.{ℕ, _+_, _-_, _*_, _%_, _^_, _<_}
+use Prim.Native.Nat.{ℕ, _+_, _*_, _%_, _^_, _<_}
 use native.Mathlib.Omega.{arith}
 use borrow.Author.Tests.{eq-eqb, ne-eqb}
 use lib.Bits.{xor-zero-r}
-use lib.Dec.{eqb}
+use lib.Dec.{eqb, lit<}
 use lib.ListN.{length, getD}
 use Rattle.indexed.specs.List.{tabulate, below, keep}
 use Rattle.indexed.proofs.Tabulate.{tabulate-same}
 use Rattle.register.specs.Shift.{shifts}
 use Rattle.register.specs.Xor.{_⊕_}
+use Rattle.register.proofs.Held.{held-lt}
 use Rattle.register.proofs.Parity.{sum-digits}
-use Rattle.register.proofs.Shift.{shifts-add, shifts-zero}
-use Rattle.register.proofs.Sum.{sum-zero}
+use Rattle.register.proofs.Shift.{shifts-add}
 use Rattle.answer.specs.Answer.{delivered, refused}
 use Rattle.cyclic.specs.Constants.{feedback, offset}
 use Rattle.cyclic.proofs.Constants.{exponent-of-X}
 use Rattle.record800.specs.Read.{wrong, checkRead, errorPattern, longitudinalRead, wrongParity, wrongCount, candidate, holds, oneOf, judgedAnswer, judgedData}
-use Rattle.record800.specs.Record.{checkSum}
 use Rattle.reader800.specs.Told.{GatheredAre, FoundIs, storedData}
 use Rattle.reader800.specs.declared.reader.Found.{Found}
 use Rattle.reader800.specs.declared.reader.Gathered.{Gathered}
-use Rattle.record800.proofs.Candidate.{wrong-lt, none-wrong, candidate-same}
+use Rattle.record800.proofs.Candidate.{wrong-lt, no-pattern, even-wrong, candidate-same}
 use Rattle.record800.proofs.Judged.{Judged, clean, one, several, none, judged, data-first, data-only}
-use Rattle.record800.proofs.Registers.{sum-fits}
 use Rattle.answer.proofs.Apart.{not-both}
 
 module _ (n : ℕ) (l : List ℕ) where
@@ -36,7 +34,7 @@ module _ (n : ℕ) (l : List ℕ) where
 
   pub pattern-lt : errorPattern n l < 512
   unfolding errorPattern
-  pattern-lt = sum-fits (wrong n l) (n + 1) (λ k h. omega (arith, wrong-lt n l k))
+  pattern-lt = held-lt 9 feedback 0 (n + 1) (wrong n l) (lit< tt) (λ k h. omega (arith, wrong-lt n l k))
 
   -- X^9 X^8 E is E, since X^17 is the identity
   pub pattern-back : (error : ℕ) → error ≡ shifts 9 feedback 8 (errorPattern n l) → shifts 9 feedback 9 error ≡ errorPattern n l
@@ -49,14 +47,11 @@ module _ (n : ℕ) (l : List ℕ) where
 
   module _ (none-is : wrongCount n l ≡ 0) where
     clean-holds : holds n l 0 ≡ (eqb (checkRead n l) offset && eqb (longitudinalRead n l) 0)
-    unfolding holds errorPattern wrongParity checkSum shifts
+    unfolding holds shifts
     clean-holds =
-        let pattern : errorPattern n l ≡ 0 =
-        sum-zero (n + 1) _ (λ k h. ap (shifts 9 feedback (n + 1 - 1 - k)) (none-wrong n l none-is k (omega arith)) ∙ shifts-zero 9 feedback (n + 1 - 1 - k)) in
-        let even : wrongParity n l ≡ 0 = sum-zero (n + 2) _ (none-wrong n l none-is) in
         ap₂ (λ (x y : ℕ). eqb x offset && eqb (longitudinalRead n l) y)
-        (ap (λ (e : ℕ). checkRead n l ⊕ e) pattern ∙ xor-zero-r (checkRead n l))
-        (ap (λ (w : ℕ). w * 2 ^ 0) even)
+        (ap (λ (e : ℕ). checkRead n l ⊕ e) (no-pattern n l none-is) ∙ xor-zero-r (checkRead n l))
+        (ap (λ (w : ℕ). w * 2 ^ 0) (even-wrong n l none-is))
 
     pub clean-answer : (b : Bool) → b ≡ (eqb (checkRead n l) offset && eqb (longitudinalRead n l) 0)
         → judgedAnswer n l ≡ cond b (delivered (n ∷ 9 ∷ 0 ∷ [])) (refused 7 0)

@@ -4,49 +4,33 @@ use mathlib.Core.Path.{_≡_, refl, sym, ap, ap₂, _∙_}
 use mathlib.Core.Bool.{Bool, cond}
 use mathlib.Core.List.{List}
 use Prim.Native.Nat.{ℕ, zero, suc, _+_, _-_, _*_, _%_, _<_, _≤_}
-use native.Mathlib.Nat.{add-comm}
 use native.Mathlib.Numerals.{add-one}
 use native.Mathlib.Omega.{arith}
 use borrow.Author.Tests.{eq-eqb, ne-eqb}
+use lib.Dec.{lit<}
 use lib.ListN.{length, getD}
 use Rattle.indexed.specs.List.{tabulate, total}
 use Rattle.indexed.proofs.Tabulate.{length-tabulate, ruled}
-use Rattle.indexed.proofs.Test.{equal}
 use Rattle.register.specs.Parity.{parity}
-use Rattle.register.specs.Shift.{shift, shifts}
+use Rattle.register.specs.Held.{held}
+use Rattle.register.specs.Shift.{shifts}
 use Rattle.register.specs.Sum.{xorSum}
 use Rattle.register.specs.Xor.{_⊕_}
-use Rattle.register.proofs.Shift.{shifts-lt, shifts-add}
-use Rattle.register.proofs.Sum.{sum-ext, sum-last, shifts-sum}
+use Rattle.register.proofs.Held.{held-lt, held-next, held-shifts}
+use Rattle.register.proofs.Shift.{shifts-place}
+use Rattle.register.proofs.Sum.{sum-last}
 use Rattle.cyclic.specs.Constants.{feedback, timesX}
 use Rattle.record800.specs.Fits.{Passes}
 use Rattle.record800.specs.Read.{picture, expectedParity, wrong, checkRead, errorPattern, longitudinalRead, wrongCount}
 use Rattle.record800.specs.Record.{checkSum}
 use Rattle.record800.proofs.Candidate.{expected-odd, wrong-lt}
 use Rattle.record800.proofs.Picture.{lengths-within, picture-below}
-use Rattle.record800.proofs.Registers.{sum-fits, sum-next}
-
--- X^8 for each wrong character: X^8 times the pattern
-error-place : (d : ℕ) → d < 2 → d * 256 ≡ shifts 9 feedback 8 d
-unfolding shift shifts
-error-place = equal 2 (λ d. d * 256) (shifts 9 feedback 8) tt
-
-turn : (p a : ℕ) → shifts 9 feedback p (shifts 9 feedback 8 a) ≡ shifts 9 feedback 8 (shifts 9 feedback p a)
-turn p a =
-    sym (shifts-add 9 feedback p 8 a) ∙ ap (λ (n : ℕ). shifts 9 feedback n a) (add-comm p 8) ∙ shifts-add 9 feedback 8 p a
-
-error-is : (m : ℕ) (d : ℕ → ℕ) → ((k : ℕ) → d k < 2) → checkSum m (λ k. d k * 256) ≡ shifts 9 feedback 8 (checkSum m d)
-unfolding checkSum
-error-is m d digits =
-    sum-ext m _ _ (λ k h. ap (shifts 9 feedback (m - 1 - k)) (error-place (d k) (digits k)) ∙ turn (m - 1 - k) (d k))
-    ∙ sym (shifts-sum 9 feedback 8 m (λ k. shifts 9 feedback (m - 1 - k) (d k)) (omega arith)
-    (λ k h. shifts-lt 9 feedback (m - 1 - k) (d k) (omega arith) (omega (arith, digits k))))
 
 module _ (n : ℕ) (l : List ℕ) where
   -- the registers and sums after k characters
   abbrev pub After : ℕ → ℕ → ℕ → ℕ → ℕ → Type 0
   After k check error longitudinal count =
-      (check ≡ checkSum k (λ i. getD l i 0)) × (error ≡ checkSum k (λ i. wrong n l i * 256))
+      (check ≡ checkSum k (λ i. getD l i 0)) × (error ≡ held 9 feedback 8 k (wrong n l))
       × (longitudinal ≡ xorSum k (λ i. getD l i 0)) × (count ≡ total k (wrong n l))
 
 -- no more are wrong than there are
@@ -91,27 +75,31 @@ module _ {backward : Bool} {characters : List ℕ} (passes : Passes backward cha
 
   -- ---- the registers and sums
 
+  wrong-below : (k i : ℕ) → i < k → wrong n l i < 512
+  wrong-below k i h = omega (arith, wrong-lt n l i)
+
   -- what a step asks: both registers have nine bits, and the flag is a digit
   pub step-asks : (k i : ℕ) {check error longitudinal count flag : ℕ} → After n l k check error longitudinal count → flag ≡ wrong n l i
       → (check < 512) × (error < 512) × (flag < 2)
   step-asks k i at is-flag = (
-    rw (at .0) (sum-fits (λ i. getD l i 0) k (λ i h. picture-below backward characters passes i)),
-    rw (at .1) (sum-fits (λ i. wrong n l i * 256) k (λ i h. omega (arith, wrong-lt n l i))),
+    rw (at .0) (held-lt 9 feedback 0 k (λ i. getD l i 0) (lit< tt) (λ i h. picture-below backward characters passes i)),
+    rw (at .1) (held-lt 9 feedback 8 k (wrong n l) (lit< tt) (wrong-below k)),
     rw is-flag (wrong-lt n l i),
   )
 
   pub step : (k : ℕ) {check error longitudinal count : ℕ} → After n l k check error longitudinal count → {character flag : ℕ}
       → character ≡ getD l k 0 → flag ≡ wrong n l k
       → After n l (k + 1) (timesX check ⊕ character) (timesX error ⊕ flag * 256) (longitudinal ⊕ character) (count + flag)
-  unfolding total
+  unfolding total timesX shifts
   step k at is-character is-flag =
       let next : suc k ≡ k + 1 = sym (add-one k) in (
         ap₂ (λ (s c : ℕ). timesX s ⊕ c) (at .0) is-character
-            ∙ sym (sum-next (λ i. getD l i 0) k (λ i h. picture-below backward characters passes i))
+            ∙ sym (held-next 9 feedback 0 k (λ i. getD l i 0) (lit< tt) (λ i h. picture-below backward characters passes i))
             ∙ ap (λ (m : ℕ). checkSum m (λ i. getD l i 0)) next,
         ap₂ (λ (s f : ℕ). timesX s ⊕ f * 256) (at .1) is-flag
-            ∙ sym (sum-next (λ i. wrong n l i * 256) k (λ i h. omega (arith, wrong-lt n l i)))
-            ∙ ap (λ (m : ℕ). checkSum m (λ i. wrong n l i * 256)) next,
+            ∙ ap (λ (x : ℕ). timesX (held 9 feedback 8 k (wrong n l)) ⊕ x) (sym (shifts-place 9 feedback 8 (wrong n l k) (lit< tt) (wrong-lt n l k)))
+            ∙ sym (held-next 9 feedback 8 k (wrong n l) (lit< tt) (wrong-below k))
+            ∙ ap (λ (m : ℕ). held 9 feedback 8 m (wrong n l)) next,
         ap₂ _⊕_ (at .2) is-character ∙ sym (sum-last k (λ i. getD l i 0)) ∙ ap (λ (m : ℕ). xorSum m (λ i. getD l i 0)) next,
         ap₂ _+_ (at .3) is-flag ∙ ap (λ (m : ℕ). total m (wrong n l)) next,
       )
@@ -125,7 +113,7 @@ module _ {backward : Bool} {characters : List ℕ} (passes : Passes backward cha
   finish at is-last is-flag =
       let next : suc (n + 1) ≡ n + 2 = omega arith in (
         at .0,
-        at .1 ∙ error-is (n + 1) (wrong n l) (wrong-lt n l),
+        at .1 ∙ sym (held-shifts 9 feedback 0 (n + 1) (wrong n l) (lit< tt) (wrong-below (n + 1)) 8),
         ap₂ _⊕_ (at .2) is-last ∙ sym (sum-last (n + 1) (λ i. getD l i 0)) ∙ ap (λ (m : ℕ). xorSum m (λ i. getD l i 0)) next,
         ap₂ _+_ (at .3) is-flag ∙ ap (λ (m : ℕ). total m (wrong n l)) next,
       )

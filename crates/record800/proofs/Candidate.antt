@@ -4,37 +4,31 @@
 use mathlib.Core.Path.{_≡_, refl, sym, ap, ap₂, _∙_}
 use mathlib.Core.Bool.{Bool, true, false, true≢false, cond, _&&_}
 use mathlib.Core.List.{List}
-use Prim.Native.Nat.{ℕ, zero, suc, _+_, _-_, _*_, _%_, _^_, _<_}
-use native.Mathlib.Nat.{add-comm, zero-mul}
+use Prim.Native.Nat.{ℕ, zero, suc, _+_, _*_, _%_, _^_, _<_}
+use native.Mathlib.Nat.{zero-mul}
 use native.Mathlib.Decide.{decLt}
 use native.Mathlib.Omega.{arith}
 use borrow.Author.Tests.{eqb-true, eq-eqb, ne-eqb}
 use lib.Bits.{xor-lt, xor-self, xor-zero-r}
-use lib.Dec.{eqb}
+use lib.Dec.{eqb, lit<}
 use lib.ListN.{getD}
 use lib.Pow.{pow-lt}
 use Rattle.indexed.specs.List.{tabulate, total}
-use Rattle.indexed.proofs.Test.{equal₂}
 use Rattle.register.specs.Parity.{parity}
-use Rattle.register.specs.Shift.{shift, shifts}
+use Rattle.register.specs.Shift.{shifts}
 use Rattle.register.specs.Sum.{xorSum}
 use Rattle.register.specs.Xor.{_⊕_}
 use Rattle.register.proofs.Expand.{digit-place-lt}
+use Rattle.register.proofs.Held.{held-ext, held-zero, held-xor, held-of-shifts, held-shifts}
 use Rattle.register.proofs.Linear.{shl-xor, linear-sum}
 use Rattle.register.proofs.Parity.{parity-lt, parity-xor, parity-place}
-use Rattle.register.proofs.Shift.{shifts-lt, shifts-xor, shifts-add, shifts-zero}
-use Rattle.register.proofs.Sum.{sum-ext, sum-zero, sum-xor, shifts-sum}
+use Rattle.register.proofs.Shift.{shifts-zero, shifts-place}
+use Rattle.register.proofs.Sum.{sum-zero, sum-xor}
 use Rattle.register.proofs.Xor.{digit-ind, odd-lt, xor-cancel, xor-zero→eq}
 use Rattle.cyclic.specs.Constants.{feedback, offset}
 use Rattle.record800.specs.Read.{expectedParity, wrong, checkRead, errorPattern, longitudinalRead, wrongParity, wrongCount, candidate, holds}
 use Rattle.record800.specs.Record.{checkSum, writtenRecord}
 use Rattle.record800.proofs.Recorded.{written-if}
-
--- ---- a digit at a place, by computing all of them
-
-shifts-place : (d j : ℕ) → d < 2 → j < 9 → d * 2 ^ j ≡ shifts 9 feedback j d
-unfolding shifts shift
-shifts-place = equal₂ 2 9 (λ d j. d * 2 ^ j) (λ d j. shifts 9 feedback j d) tt
 
 -- two tests that passed
 pub both-true : (a b : Bool) → a && b ≡ true → (a ≡ true) × (b ≡ true)
@@ -88,16 +82,21 @@ module _ (n : ℕ) (l : List ℕ) where
       ∙ ap (λ (w : ℕ). getD l k 0 ⊕ w) (zero-mul (2 ^ j))
       ∙ xor-zero-r (getD l k 0)
 
+  pub no-pattern : wrongCount n l ≡ 0 → errorPattern n l ≡ 0
+  unfolding errorPattern
+  no-pattern e = held-zero 9 feedback 0 (n + 1) (wrong n l) (λ k h. none-wrong e k (omega arith))
+
+  pub even-wrong : wrongCount n l ≡ 0 → wrongParity n l ≡ 0
+  unfolding wrongParity
+  even-wrong e = sum-zero (n + 2) (wrong n l) (none-wrong e)
+
   -- all tracks hold or none does
   pub holds-same : wrongCount n l ≡ 0 → (j : ℕ) → holds n l j ≡ holds n l 0
-  unfolding holds errorPattern wrongParity checkSum shifts
+  unfolding holds shifts
   holds-same e j =
-      let pattern : errorPattern n l ≡ 0 =
-      sum-zero (n + 1) _ (λ k h. ap (shifts 9 feedback (n + 1 - 1 - k)) (none-wrong e k (omega arith)) ∙ shifts-zero 9 feedback (n + 1 - 1 - k)) in
-      let even : wrongParity n l ≡ 0 = sum-zero (n + 2) _ (none-wrong e) in
       ap₂ (λ (x y : ℕ). eqb (checkRead n l ⊕ x) offset && eqb (longitudinalRead n l) y)
-      (ap (shifts 9 feedback j) pattern ∙ shifts-zero 9 feedback j ∙ sym pattern)
-      (ap (λ (w : ℕ). w * 2 ^ j) even ∙ zero-mul (2 ^ j) ∙ sym (zero-mul (2 ^ 0)) ∙ sym (ap (λ (w : ℕ). w * 2 ^ 0) even))
+      (ap (shifts 9 feedback j) (no-pattern e) ∙ shifts-zero 9 feedback j ∙ sym (no-pattern e))
+      (ap (λ (w : ℕ). w * 2 ^ j) (even-wrong e) ∙ zero-mul (2 ^ j) ∙ sym (zero-mul (2 ^ 0)) ∙ sym (ap (λ (w : ℕ). w * 2 ^ 0) (even-wrong e)))
 
   module _ (below : (k : ℕ) → getD l k 0 < 512) (j : ℕ) (is-track : j < 9) where
     pub candidate-lt : (k : ℕ) → candidate n l j k < 512
@@ -113,20 +112,14 @@ module _ (n : ℕ) (l : List ℕ) where
 
     -- bit j of character k is X^j, and powers of X commute
     pub candidate-check : checkSum (n + 1) (candidate n l j) ≡ checkRead n l ⊕ shifts 9 feedback j (errorPattern n l)
-    unfolding checkSum candidate checkRead errorPattern
+    unfolding candidate checkRead errorPattern
     candidate-check =
-        sum-ext (n + 1) _ _
-        (λ k h. shifts-xor 9 feedback (n + 1 - 1 - k) (getD l k 0) (wrong n l k * 2 ^ j) (omega arith) (below k)
-        (digit-place-lt 9 j (wrong n l k) is-track (wrong-lt k))
-        ∙ ap (λ (x : ℕ). shifts 9 feedback (n + 1 - 1 - k) (getD l k 0) ⊕ x)
-        (ap (shifts 9 feedback (n + 1 - 1 - k)) (shifts-place (wrong n l k) j (wrong-lt k) is-track)
-        ∙ sym (shifts-add 9 feedback (n + 1 - 1 - k) j (wrong n l k))
-        ∙ ap (λ (m : ℕ). shifts 9 feedback m (wrong n l k)) (add-comm (n + 1 - 1 - k) j)
-        ∙ shifts-add 9 feedback j (n + 1 - 1 - k) (wrong n l k)))
-        ∙ sum-xor (n + 1) (λ k. shifts 9 feedback (n + 1 - 1 - k) (getD l k 0)) (λ k. shifts 9 feedback j (shifts 9 feedback (n + 1 - 1 - k) (wrong n l k)))
+        held-xor 9 feedback 0 (n + 1) (λ k. getD l k 0) (lit< tt) (λ k h. below k) (λ k. wrong n l k * 2 ^ j)
+        (λ k h. digit-place-lt 9 j (wrong n l k) is-track (wrong-lt k))
         ∙ ap (λ (x : ℕ). checkRead n l ⊕ x)
-        (sym (shifts-sum 9 feedback j (n + 1) (λ k. shifts 9 feedback (n + 1 - 1 - k) (wrong n l k)) (omega arith)
-        (λ k h. shifts-lt 9 feedback (n + 1 - 1 - k) (wrong n l k) (omega arith) (omega (arith, wrong-lt k)))))
+        (held-ext 9 feedback 0 (n + 1) _ _ (λ k h. sym (shifts-place 9 feedback j (wrong n l k) is-track (wrong-lt k)))
+        ∙ held-of-shifts 9 feedback 0 (n + 1) (wrong n l) j
+        ∙ sym (held-shifts 9 feedback 0 (n + 1) (wrong n l) (lit< tt) (λ k h. omega (arith, wrong-lt k)) j))
 
     pub candidate-longitudinal : xorSum (n + 2) (candidate n l j) ≡ longitudinalRead n l ⊕ wrongParity n l * 2 ^ j
     unfolding candidate longitudinalRead wrongParity

@@ -21,9 +21,9 @@ use Rattle.indexed.proofs.Tabulate.{length-tabulate, getD-tabulate, tabulate-sa
 use Rattle.indexed.proofs.Total.{total-same, differences-total, differences-zero}
 use Rattle.register.specs.Bit.{bit}
 use Rattle.register.specs.Parity.{parity}
-use Rattle.register.specs.Shift.{shifts}
 use Rattle.register.specs.Sum.{xorSum}
 use Rattle.register.specs.Xor.{_⊕_}
+use Rattle.register.proofs.Held.{held-ext}
 use Rattle.register.proofs.Sum.{sum-ext}
 use Rattle.cyclic.specs.Constants.{feedback, offset}
 use Rattle.record800.specs.Fits.{IsData, Passes, Fits, trackChanged, charactersChanged}
@@ -69,9 +69,8 @@ module _ (backward : Bool) (characters : List ℕ) (passes : Passes backward cha
         ∙ ap (λ (e : ℕ). getD l k 0 ⊕ (parity (getD l k 0) ⊕ e) * 2 ^ f .track) (right-parity k h)
 
     check-right : checkSum (n + 1) (candidate n l (f .track)) ≡ offset
-    unfolding checkSum
     check-right =
-        sum-ext (n + 1) _ _ (λ k h. ap (shifts 9 feedback (n + 1 - 1 - k)) (sym (right-candidate k (omega arith))))
+        held-ext 9 feedback 0 (n + 1) _ _ (λ k h. sym (right-candidate k (omega arith)))
         ∙ ap (λ (m : ℕ). checkSum (m + 1) right) (sym as-many)
         ∙ record-check-sum bytes
 

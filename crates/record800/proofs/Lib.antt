@@ -1,5 +1,4 @@
 pub mod Recorded
-pub mod Registers
 pub mod Candidate
 pub mod Apart
 pub mod Judged

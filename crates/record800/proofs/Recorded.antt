@@ -4,7 +4,7 @@ use mathlib.Core.Path.{_≡_, refl, sym, ap, ap₂, _∙_}
 use mathlib.Core.Bool.{Bool, cond}
 use mathlib.Core.List.{List, [], _∷_, _++_, map}
 use mathlib.Core.Logic.{_⊎_, inl, inr}
-use Prim.Native.Nat.{ℕ, suc, _+_, _-_, _%_, _<_}
+use Prim.Native.Nat.{ℕ, suc, _+_, _%_, _<_}
 use native.Mathlib.Nat.{zero-lt-suc}
 use native.Mathlib.Decide.{decLt, ℕ-discrete}
 use native.Mathlib.Numerals.{add-one}
@@ -18,12 +18,13 @@ use Rattle.indexed.specs.List.{tabulate}
 use Rattle.indexed.proofs.Map.{getD-map}
 use Rattle.indexed.proofs.Tabulate.{length-tabulate, getD-tabulate}
 use Rattle.indexed.proofs.Test.{tested, equal}
+use Rattle.register.specs.Held.{held}
 use Rattle.register.specs.Parity.{parity, parityDigits}
 use Rattle.register.specs.Shift.{shifts}
 use Rattle.register.specs.Sum.{xorSum}
 use Rattle.register.specs.Xor.{_⊕_}
-use Rattle.register.proofs.Parity.{parity-xor, shifts-parity, odd-more, sum-odd}
-use Rattle.register.proofs.Shift.{shifts-lt}
+use Rattle.register.proofs.Held.{held-ext, held-last, held-lt, held-parity}
+use Rattle.register.proofs.Parity.{parity-xor, odd-more, sum-odd}
 use Rattle.register.proofs.Sum.{sum-ext, sum-lt, sum-last}
 use Rattle.register.proofs.Xor.{xor-cancel, xor-zero→eq}
 use Rattle.cyclic.specs.Constants.{feedback, offset}
@@ -65,31 +66,9 @@ sum-two-more n g =
     let next : n + 2 ≡ suc (n + 1) = omega arith in
     ap (λ (m : ℕ). xorSum m g) next ∙ sum-last (n + 1) g
 
--- what the data characters add to the check register: the last of n has index 1
-unfoldable pub dataSum : ℕ → (ℕ → ℕ) → ℕ
-dataSum n c = xorSum n (λ k. shifts 9 feedback (n - k) (c k))
-
-data-sum-ext : (n : ℕ) (c d : ℕ → ℕ) → ((k : ℕ) → k < n → c k ≡ d k) → dataSum n c ≡ dataSum n d
-unfolding dataSum
-data-sum-ext n c d e = sum-ext n _ _ (λ k h. ap (shifts 9 feedback (n - k)) (e k h))
-
-data-sum-lt : (n : ℕ) (c : ℕ → ℕ) → ((k : ℕ) → k < n → c k < 512) → dataSum n c < 512
-unfolding dataSum
-data-sum-lt n c h = sum-lt 9 n _ (λ k b. shifts-lt 9 feedback (n - k) (c k) (lit< tt) (h k b))
-
-data-sum-parity : (n : ℕ) (c : ℕ → ℕ) → ((k : ℕ) → k < n → c k < 512) → ((k : ℕ) → k < n → parity (c k) ≡ 1)
-    → parity (dataSum n c) ≡ n % 2
-unfolding dataSum
-data-sum-parity n c h odd = sum-odd n _ (λ k b. shifts-parity 9 feedback feedback-odd (n - k) (c k) (lit< tt) (h k b) ∙ odd k b)
-
--- the last character of a check sum is its term with power 0
-pub check-sum-last : (n : ℕ) (c : ℕ → ℕ) → checkSum (n + 1) c ≡ dataSum n c ⊕ c n
-unfolding checkSum dataSum shifts
-check-sum-last n c =
-    let last : n + 1 - 1 - n ≡ 0 = omega arith in
-    sum-one-more n _
-    ∙ ap₂ _⊕_ (sum-ext n _ _ (λ k h. let same : n + 1 - 1 - k ≡ n - k = omega arith in ap (λ (j : ℕ). shifts 9 feedback j (c k)) same))
-    (ap (λ (j : ℕ). shifts 9 feedback j (c n)) last)
+check-sum-last : (n : ℕ) (c : ℕ → ℕ) → checkSum (n + 1) c ≡ held 9 feedback 1 n c ⊕ c n
+unfolding shifts
+check-sum-last n c = ap (λ (m : ℕ). checkSum m c) (add-one n) ∙ held-last 9 feedback 0 n c
 
 -- ---- the record by its characters
 
@@ -142,12 +121,12 @@ longitudinal-more l x =
 -- ---- its last two characters as sums of those before
 
 check-is : (bytes : List ℕ)
-    → checkCharacter (map characterOf bytes) ≡ dataSum (length bytes) (λ k. getD (writtenRecord bytes) k 0) ⊕ offset
-unfolding checkCharacter dataSum
+    → checkCharacter (map characterOf bytes) ≡ held 9 feedback 1 (length bytes) (λ k. getD (writtenRecord bytes) k 0) ⊕ offset
+unfolding checkCharacter
 check-is bytes =
     ap (λ (s : ℕ). s ⊕ offset)
-    (ap (λ (n : ℕ). dataSum n (λ k. getD (map characterOf bytes) k 0)) (length-map bytes characterOf)
-    ∙ data-sum-ext (length bytes) _ _ (λ k h. sym (record-character bytes k h)))
+    (ap (λ (n : ℕ). held 9 feedback 1 n (λ k. getD (map characterOf bytes) k 0)) (length-map bytes characterOf)
+    ∙ held-ext 9 feedback 1 (length bytes) _ _ (λ k h. sym (record-character bytes k h)))
 
 longitudinal-is : (bytes : List ℕ)
     → longitudinal (withCheck (map characterOf bytes)) ≡ xorSum (length bytes + 1) (λ k. getD (writtenRecord bytes) k 0)
@@ -159,8 +138,8 @@ longitudinal-is bytes =
 pub record-check-sum : (bytes : List ℕ) → checkSum (length bytes + 1) (λ k. getD (writtenRecord bytes) k 0) ≡ offset
 record-check-sum bytes =
     check-sum-last (length bytes) _
-    ∙ ap (λ (x : ℕ). dataSum (length bytes) (λ k. getD (writtenRecord bytes) k 0) ⊕ x) (record-check bytes ∙ check-is bytes)
-    ∙ xor-cancel (dataSum (length bytes) (λ k. getD (writtenRecord bytes) k 0)) offset
+    ∙ ap (λ (x : ℕ). held 9 feedback 1 (length bytes) (λ k. getD (writtenRecord bytes) k 0) ⊕ x) (record-check bytes ∙ check-is bytes)
+    ∙ xor-cancel (held 9 feedback 1 (length bytes) (λ k. getD (writtenRecord bytes) k 0)) offset
 
 pub record-longitudinal-sum : (bytes : List ℕ) → xorSum (length bytes + 2) (λ k. getD (writtenRecord bytes) k 0) ≡ 0
 record-longitudinal-sum bytes =
@@ -187,7 +166,7 @@ module _ (bytes : List ℕ) (below : (k : ℕ) → getD bytes k 0 < 256) where
   data-parity k h = ap parity (record-data bytes k h) ∙ character-parity (getD bytes k 0) (below k)
 
   check-lt : getD (writtenRecord bytes) (length bytes) 0 < 512
-  check-lt = rw (record-check bytes ∙ check-is bytes) (xor-lt 9 _ offset (data-sum-lt (length bytes) _ data-lt) (lit< tt))
+  check-lt = rw (record-check bytes ∙ check-is bytes) (xor-lt 9 _ offset (held-lt 9 feedback 1 (length bytes) _ (lit< tt) data-lt) (lit< tt))
 
   front-lt : (k : ℕ) → k < length bytes + 1 → getD (writtenRecord bytes) k 0 < 512
   front-lt k h = by (decLt k (length bytes))
@@ -212,7 +191,7 @@ module _ (bytes : List ℕ) (below : (k : ℕ) → getD bytes k 0 < 256) where
   check-parity =
       ap parity (check-is bytes)
       ∙ parity-xor _ offset
-      ∙ ap₂ _⊕_ (data-sum-parity (length bytes) _ data-lt data-parity) offset-odd
+      ∙ ap₂ _⊕_ (held-parity 9 feedback 1 (length bytes) _ (lit< tt) data-lt feedback-odd ∙ sum-odd (length bytes) _ data-parity) offset-odd
       ∙ odd-more (length bytes) 1 (lit< tt)
 
   -- and the longitudinal one is odd
@@ -265,8 +244,8 @@ module _ (bytes : List ℕ) (c : ℕ → ℕ) (data-are : (k : ℕ) → k < leng
   same-check =
       record-check bytes
       ∙ check-is bytes
-      ∙ ap₂ _⊕_ (data-sum-ext (length bytes) _ c same-data) (sym check-holds ∙ check-sum-last (length bytes) c)
-      ∙ xor-cancel (dataSum (length bytes) c) (c (length bytes))
+      ∙ ap₂ _⊕_ (held-ext 9 feedback 1 (length bytes) _ c same-data) (sym check-holds ∙ check-sum-last (length bytes) c)
+      ∙ xor-cancel (held 9 feedback 1 (length bytes) c) (c (length bytes))
 
   same-front : (k : ℕ) → k < length bytes + 1 → getD (writtenRecord bytes) k 0 ≡ c k
   same-front k h = by (decLt k (length bytes))

@@ -9,5 +9,6 @@ pub mod Ones
 pub mod Linear
 pub mod Exponent
 pub mod Parity
+pub mod Held
 pub mod Matrix
 pub mod Flipped

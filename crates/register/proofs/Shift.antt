@@ -124,6 +124,12 @@ shifts-of-one w f (suc k) h =
     ∙ shift-low w f (2 ^ k) (rw (← power) (pow-lt h))
     ∙ sym power
 
+-- and those of a digit are its places
+pub shifts-place : (w f k d : ℕ) → k < w → d < 2 → shifts w f k d ≡ d * 2 ^ k
+shifts-place w f k d hk hd =
+    digit-ind (λ (d : ℕ). shifts w f k d ≡ d * 2 ^ k) (shifts-zero w f k ∙ sym (zero-mul (2 ^ k)))
+    (shifts-of-one w f k hk ∙ sym (one-mul (2 ^ k))) d hd
+
 -- a shift that pushes a digit out adds X^w + f to the double
 pub shift-high : (w f a : ℕ) → f < 2 ^ w → a < 2 ^ w → 2 ^ w ≤ 2 * a → shift w f a ≡ 2 * a ⊕ (2 ^ w + f)
 unfolding shift

@@ -3,16 +3,16 @@
 use mathlib.Core.Path.{_≡_, sym, ap, ap₂, _∙_}
 use mathlib.Core.Bool.{Bool, cond, _&&_}
 use mathlib.Core.List.{List, [], _∷_, _++_, map}
-use Prim.Native.Nat.{ℕ, suc, _+_, _-_, _<_, _≤_}
+use Prim.Native.Nat.{ℕ, suc, _+_, _<_, _≤_}
 use native.Mathlib.Omega.{arith}
 use borrow.Author.Tests.{le-leb, lt-leb}
-use lib.Dec.{leb}
+use lib.Dec.{leb, lit<}
 use lib.ListN.{length, getD, drop, set, length-append, length-drop, length-map}
 use lib.Seq.{drop-cons, set-at, append-snoc}
+use Rattle.register.specs.Held.{held}
 use Rattle.register.specs.Shift.{shifts}
-use Rattle.register.specs.Sum.{xorSum}
 use Rattle.register.specs.Xor.{_⊕_}
-use Rattle.register.proofs.Sum.{sum-ext}
+use Rattle.register.proofs.Held.{held-ext, held-lt, held-shifts}
 use Rattle.indexed.proofs.Map.{getD-map}
 use Rattle.answer.specs.Answer.{Answer, delivered, refused}
 use Rattle.cyclic.specs.Constants.{feedback, timesX}
@@ -20,7 +20,6 @@ use Rattle.record800.specs.Record.{characterOf, checkSum, checkCharacter, longi
 use Rattle.record800.specs.Written.{writeAnswer}
 use Rattle.writer800.specs.Written.{stored}
 use Rattle.record800.proofs.Recorded.{character-lt, length-record, longitudinal-more}
-use Rattle.record800.proofs.Registers.{sum-fits, sum-shifted}
 
 -- ---- the answer
 
@@ -76,17 +75,17 @@ module _ (bytes : List ℕ) (below : (k : ℕ) → getD bytes k 0 < 256) where
 
   -- the check register has nine bits
   pub check-fits : (k check : ℕ) → check ≡ checkSum k (λ i. characterOf (getD bytes i 0)) → check < 512
-  check-fits k check e = rw e (sum-fits (λ i. characterOf (getD bytes i 0)) k (λ i h. character-lt (getD bytes i 0) (below i)))
+  check-fits k check e = rw e (held-lt 9 feedback 0 k (λ i. characterOf (getD bytes i 0)) (lit< tt) (λ i h. character-lt (getD bytes i 0) (below i)))
 
   -- one shift more, and G2 added
   pub check-is : (check : ℕ) → check ≡ checkSum (length bytes) (λ k. characterOf (getD bytes k 0)) → timesX check ⊕ 471 ≡ checkCharacter characters
-  unfolding checkCharacter
+  unfolding checkCharacter timesX shifts
   check-is check e =
       ap (λ (s : ℕ). s ⊕ 471)
       (ap timesX e
-      ∙ sum-shifted (λ k. characterOf (getD bytes k 0)) (length bytes) (λ k h. character-lt (getD bytes k 0) (below k))
-      ∙ sum-ext (length bytes) _ _ (λ k h. ap (shifts 9 feedback (length bytes - k)) (sym (getD-map characterOf bytes k 0 0 h)))
-      ∙ ap (λ (n : ℕ). xorSum n (λ k. shifts 9 feedback (n - k) (getD characters k 0))) (sym (length-map bytes characterOf)))
+      ∙ held-shifts 9 feedback 0 (length bytes) (λ k. characterOf (getD bytes k 0)) (lit< tt) (λ k h. character-lt (getD bytes k 0) (below k)) 1
+      ∙ held-ext 9 feedback 1 (length bytes) _ _ (λ k h. sym (getD-map characterOf bytes k 0 0 h))
+      ∙ ap (λ (n : ℕ). held 9 feedback 1 n (λ k. getD characters k 0)) (sym (length-map bytes characterOf)))
 
   pub all-stored : (output : List ℕ) (check last : ℕ) → length bytes + 2 ≤ length output → check ≡ checkCharacter characters
       → last ≡ longitudinal characters ⊕ check

@@ -7,9 +7,9 @@ use borrow.Author.Needs.{needs}
 use denote.Ref.{now}
 use lib.ListN.{length}
 use Rattle.indexed.specs.List.{total}
+use Rattle.register.specs.Held.{held}
 use Rattle.register.specs.Sum.{xorSum}
 use Rattle.record800.specs.Read.{picture, wrongCount}
-use Rattle.record800.specs.Record.{checkSum}
 use Rattle.reader800.proofs.Gathering.{After, few-wrong, in-table, data-wrong, check-wrong, last-wrong, step-asks, step, finish}
 use Rattle.record800.proofs.Picture.{lengths-within}
 use Rattle.reader800.proofs.reader.gather.Statement.{statement}
@@ -29,7 +29,7 @@ fresh-requires : tie.Need-fresh-requires Inv-loop μ-loop
 fresh-requires c κs = tt
 
 loop-holds : tie.Need-loop-holds Inv-loop μ-loop
-unfolding checkSum xorSum total
+unfolding held xorSum total
 loop-holds c = (search needs, (c .fresh .ensures .0, c .fresh .ensures .1, refl, refl))
 
 forward-character-requires : tie.Need-forward-character-requires Inv-loop μ-loop

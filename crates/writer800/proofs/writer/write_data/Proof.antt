@@ -7,17 +7,20 @@ use native.Mathlib.Numerals.{add-one}
 use native.Mathlib.Omega.{arith}
 use borrow.Author.Needs.{needs}
 use denote.Ref.{now}
+use lib.Dec.{lit<}
 use lib.ListN.{length, getD, set, length-set, length-map}
 use Rattle.indexed.proofs.Front.{front, front-more, front-all}
 use Rattle.indexed.proofs.Map.{getD-map}
 use Rattle.indexed.proofs.Tabulate.{length-tabulate, ruled}
+use Rattle.register.specs.Held.{held}
+use Rattle.register.specs.Shift.{shifts}
 use Rattle.register.specs.Sum.{xorSum}
 use Rattle.register.specs.Xor.{_⊕_}
+use Rattle.register.proofs.Held.{held-next}
 use Rattle.register.proofs.Sum.{sum-ext, sum-last}
-use Rattle.cyclic.specs.Constants.{timesX}
+use Rattle.cyclic.specs.Constants.{feedback, timesX}
 use Rattle.record800.specs.Record.{characterOf, checkSum, longitudinal}
 use Rattle.writer800.specs.Written.{stored}
-use Rattle.record800.proofs.Registers.{sum-next}
 use Rattle.record800.proofs.Recorded.{character-lt}
 use Rattle.writer800.proofs.Writing.{check-fits}
 use Rattle.writer800.proofs.writer.write_data.Statement.{statement}
@@ -31,7 +34,7 @@ abbrev μ-loop : tie.MeasureT-loop
 μ-loop bytes table characters₀ check₀ longitudinal₀ k₀ characters check longitudinal k = length bytes - k
 
 loop-holds : tie.Need-loop-holds Inv-loop μ-loop
-unfolding checkSum xorSum
+unfolding held xorSum
 loop-holds c = (search needs, refl, refl, refl, refl)
 
 shared-slice-read-next : tie.Need-shared-slice-read-next Inv-loop μ-loop
@@ -66,6 +69,7 @@ loop-less : tie.Need-loop-less Inv-loop μ-loop
 loop-less c = search needs
 
 loop-again : tie.Need-loop-again Inv-loop μ-loop
+unfolding timesX shifts
 loop-again c =
     let start = c .before .before .before .before .before .before .before .before in
     let at = c .before .before .before .before .loop in
@@ -78,7 +82,7 @@ loop-again c =
           (next ∙ sym (getD-map characterOf bytes (at .k) 0 0 (c .before .before .before .loop-test .taken)))
           ∙ front-more (at .k) (map characterOf bytes) (now (start .args .characters)) 0 (omega (arith, length-map bytes characterOf)) (omega arith),
       ap₂ _⊕_ (c .shift .ensures ∙ ap timesX (at .inv .3)) next
-          ∙ sym (sum-next (λ i. characterOf (getD bytes i 0)) (at .k) (λ i h. character-lt _ (are i)))
+          ∙ sym (held-next 9 feedback 0 (at .k) (λ i. characterOf (getD bytes i 0)) (lit< tt) (λ i h. character-lt _ (are i)))
           ∙ ap (λ (n : ℕ). checkSum n (λ i. characterOf (getD bytes i 0))) (sym (add-one (at .k))),
       ap₂ _⊕_ (at .inv .4) next
           ∙ sym (sum-last (at .k) (λ i. characterOf (getD bytes i 0)))
