@@ -30,14 +30,14 @@ is-member n (x ∷ xs) t = by (eqb n x) refl (is-member n xs) t
 
 pub listed : (reason : Reason) → List·Memᴰ (numberOf reason) refusals
 unfolding stands
-listed Length = is-member 1 refusals tt
-listed Space = is-member 2 refusals tt
-listed StrayBits = is-member 3 refusals tt
-listed ManyPointed = is-member 4 refusals tt
-listed NoGroup = is-member 5 refusals tt
-listed Padding = is-member 6 refusals tt
-listed NoRecord = is-member 7 refusals tt
-listed SeveralRecords = is-member 8 refusals tt
+listed Length = is-member _ refusals tt
+listed Space = is-member _ refusals tt
+listed StrayBits = is-member _ refusals tt
+listed ManyPointed = is-member _ refusals tt
+listed NoGroup = is-member _ refusals tt
+listed Padding = is-member _ refusals tt
+listed NoRecord = is-member _ refusals tt
+listed SeveralRecords = is-member _ refusals tt
 
 -- a call from C returns 0 for a delivery: no refusal has that number
 positives : List ℕ → Bool
