@@ -157,11 +157,11 @@ module _ (w f n : ℕ) (s : Suits w f) (x : Exponent w f n) (odd : n ≡ 2 * (n 
           → (length u ≡ suc w) × IsGroup w f (λ k. getD u k 0) × Allowed (suc w) pointers v (λ k. getD u k 0)
       by [] q e =
           let c = one-sound w f v s bounds (below (suc w)) below-within u e in
-          (c .2 .0, c .2 .1, inl (ap length q, differences-one v _ _ (suc w) (c .2 .2)))
+          (c .2 .0, c .2 .1, inl (omega (arith, ap length q), omega (arith, differences-one v _ _ (suc w) (c .2 .2))))
       by (i ∷ []) q e =
           let c = one-sound w f v s bounds (i ∷ []) (λ t h. omega (arith, pointed-lt (suc w) pointers (i ∷ []) q t h)) u e in
           let no : (k : ℕ) → bit k pointers ≡ 0 → k ≡ getD (i ∷ []) (c .0) 0 → ⊥ = pointed-bit (suc w) pointers (i ∷ []) q (c .0) (c .1) in
-          (c .2 .0, c .2 .1, inr (omega (arith, ap length q), omega (arith, ap length q), λ k h z. c .2 .2 k h (no k z) (no k z)))
+          (c .2 .0, c .2 .1, inr (omega (arith, ap length q), omega (arith, ap length q), λ k h z. c .2 .2 k (omega arith) (no k z) (no k z)))
       by (i ∷ j ∷ []) q e =
           let c =
           two-sound w f v s bounds n x odd wide i j (pointed-ascends (suc w) pointers (i ∷ j ∷ []) q 0 1 (omega arith) (omega arith))
@@ -171,7 +171,7 @@ module _ (w f n : ℕ) (s : Suits w f) (x : Exponent w f n) (odd : n ≡ 2 * (n 
             inr (
               omega (arith, ap length q),
               omega (arith, ap length q),
-              λ k h z. c .2 k h (pointed-bit (suc w) pointers (i ∷ j ∷ []) q 0 (omega arith) k z)
+              λ k h z. c .2 k (omega arith) (pointed-bit (suc w) pointers (i ∷ j ∷ []) q 0 (omega arith) k z)
                   (pointed-bit (suc w) pointers (i ∷ j ∷ []) q 1 (omega arith) k z),
             ),
           )
