@@ -20,7 +20,7 @@ use Rattle.answer.specs.declared.Reason.the-variants.{Length, Space, StrayBits}
 use Rattle.rectangular.specs.Correction.{Judgement}
 use Rattle.rectangular.specs.Correction.{changedMap}
 use Rattle.group_code.specs.Word.{forwardWord}
-use Rattle.record6250.specs.Group.{stray, judgedGroup, isCorrected, reasonOf, rightBytes, rightWords}
+use Rattle.record6250.specs.Group.{stray, isCorrected, reasonOf, rightBytes, rightWords}
 use Rattle.record6250.specs.Picture.{groupRead, mapRead, pictureWords, pictureMaps, turnedWords}
 use Rattle.record6250.specs.Read.{lengthsSuit, paddingSuits, unpadded, readGroup, readMap, judgement, changedTracks, firstStray, firstUnfit, readBody, readData, changes, judgedAnswer, readAnswer}
 use Rattle.record6250.proofs.Answer.{length-refused}
@@ -34,7 +34,7 @@ module _ (b c : Bool) (words maps words' maps' : List ℕ) (as-many : length map
     (pointers : (g : ℕ) → g < length maps → readMap c words' maps' g ≡ readMap b words maps g) where
   same-judgement : (g : ℕ) → g < length maps → judgement c words' maps' g ≡ judgement b words maps g
   unfolding judgement
-  same-judgement g h = ap₂ judgedGroup (groups g h) (pointers g h)
+  same-judgement g h = simp (groups g h, pointers g h)
 
   same-changed : (g : ℕ) → g < length maps → ones (changedTracks c words' maps' g) ≡ ones (changedTracks b words maps g)
   unfolding changedTracks

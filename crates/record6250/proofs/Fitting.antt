@@ -42,7 +42,7 @@ module _ (backward : Bool) (words maps : List ℕ) (passes : Passes backward wor
     info g = groupBytes g (body bytes)
 
     long : length (body bytes) ≡ 7 * length maps
-    long = length-body bytes ∙ ap (λ (n : ℕ). 7 * n) (fits .as-many)
+    long = omega (arith, length-body bytes, fits .as-many)
 
     info-below : (g : ℕ) → Below 8 (info g)
     info-below = groupBytes-bounded 256 (body bytes) (body-below bytes (fits .are-data .are-bytes))
