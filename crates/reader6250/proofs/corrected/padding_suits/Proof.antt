@@ -53,7 +53,7 @@ unfolding lastByte
 returns-2 c =
     let bytes = now (c .before .before .before .before .before .before .args .bytes) in
     let at = c .before .before .before .loop in
-    sym (not-zero bytes (at .k) (c .before .before .loop-test .taken) (ne-eqb (getD bytes (length bytes - 2 - at .k) 0) 0 (c .if2 .taken)))
+    sym (not-zero bytes (at .k) (omega (arith, c .before .before .loop-test .taken)) (ne-eqb (getD bytes (length bytes - 2 - at .k) 0) 0 (c .if2 .taken)))
 
 add-k : tie.Need-add-k Inv-loop μ-loop
 add-k c = search needs
