@@ -4,13 +4,10 @@
 use crate::library::{self, Answer, Direction};
 use crate::reading6250::{self, byte_of, turned};
 use crate::record6250::{body, word, words_of_body};
-use crate::vectors::LENT_BYTE;
+use crate::vectors::{BEHIND, LENT_BYTE};
 use crate::{Seeded, Tried};
 
 const CASES: usize = 200_000;
-
-/// Bytes behind the lent output, which no call may reach.
-const BEHIND: usize = 16;
 
 /// A reading in forward order.
 struct Reading {
@@ -86,7 +83,7 @@ fn damage_tracks(seeded: &mut Seeded, words: &mut [u16], tracks: &[usize]) {
 
 /// Damages up to three tracks of a group, or all, and points at tracks that need not be the damaged ones:
 /// the pointed ones follow one another in the same choice of tracks, from a damaged or a healthy one on.
-fn damage_group(seeded: &mut Seeded, words: &mut [u16], map: &mut u16) {
+pub fn damage_group(seeded: &mut Seeded, words: &mut [u16], map: &mut u16) {
     let tracks = shuffled(seeded);
     let damaged = match seeded.below(16) {
         0 | 1 => 0,

@@ -4,13 +4,10 @@
 use crate::library::{self, Answer, Direction};
 use crate::reading800::{self, turned};
 use crate::record800::{self, written, G2};
-use crate::vectors::{LENT, LENT_BYTE};
+use crate::vectors::{BEHIND, LENT, LENT_BYTE};
 use crate::{Seeded, Tried};
 
 const CASES: usize = 250_000;
-
-/// Elements behind the lent output, which no call may reach.
-const BEHIND: usize = 16;
 
 /// The answers that document 01 has for reading at 800.
 const READING: [usize; 6] = [0, 1, 2, 3, 7, 8];
@@ -37,7 +34,7 @@ fn some_places(seeded: &mut Seeded, length: usize) -> Vec<usize> {
     }
 }
 
-fn flip(characters: &mut [u16], places: &[usize], bits: u16) {
+pub fn flip(characters: &mut [u16], places: &[usize], bits: u16) {
     for &place in places {
         characters[place] ^= bits;
     }
@@ -102,7 +99,7 @@ fn far_apart(seeded: &mut Seeded, characters: &mut [u16]) {
     flip(characters, &[first, first + distance.min(n)], 1 << seeded.below(9));
 }
 
-fn damage(seeded: &mut Seeded, characters: &mut [u16]) {
+pub fn damage(seeded: &mut Seeded, characters: &mut [u16]) {
     match seeded.below(16) {
         0..=4 => one_track(seeded, characters),
         5 | 6 => two_tracks(seeded, characters),

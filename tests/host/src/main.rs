@@ -14,7 +14,7 @@ mod record800;
 mod vectors;
 
 use library::{Direction, Toward};
-use vectors::LENT;
+use vectors::{BEHIND, LENT};
 
 /// A seeded generator (splitmix64), so that every run tries the same cases.
 struct Seeded(u64);
@@ -87,19 +87,29 @@ fn every_map(toward: Toward) -> Tried {
     tried
 }
 
+/// One or two of the words beyond ten bits, by one or by anything.
+fn stray(seeded: &mut Seeded, words: &mut [u16]) {
+    for _ in 0..1 + seeded.below(2) {
+        let place = seeded.index(words.len());
+        words[place] = if seeded.once_in(3) { 1024 } else { 1024 + seeded.below(65536 - 1024) as u16 };
+    }
+}
+
 fn random_words(toward: Toward) -> Tried {
     let mut seeded = Seeded(212);
     let mut tried = Tried::default();
-    for case in 0..200_000 {
+    for _ in 0..200_000 {
         tried.cases += 1;
-        let count = if case % 8 == 0 { seeded.below(20) } else { 9 };
-        let bound = if case % 4 == 1 { 1040 } else { 1024 };
-        let source: Vec<u16> = (0..count).map(|_| seeded.below(bound) as u16).collect();
-        let space = if case % 8 == 2 { seeded.below(9) } else { 9 + seeded.below(4) } as usize;
-        let mut target = vec![LENT; space];
-        let mut after = vec![LENT; space];
-        let got = library::words(toward, &source, &mut target);
-        let want = head_order::words(toward, &source, &mut after);
+        let count = if seeded.once_in(8) { seeded.below(20) } else { 9 };
+        let mut source: Vec<u16> = (0..count).map(|_| seeded.below(1024) as u16).collect();
+        if count > 0 && seeded.once_in(4) {
+            stray(&mut seeded, &mut source);
+        }
+        let space = if seeded.once_in(8) { seeded.below(9) } else { 9 + seeded.below(4) } as usize;
+        let mut target = vec![LENT; space + BEHIND];
+        let mut after = vec![LENT; space + BEHIND];
+        let got = library::words(toward, &source, &mut target[..space]);
+        let want = head_order::words(toward, &source, &mut after[..space]);
         if got != want || target != after {
             tried.wrong.push(format!("words {source:?}: {got:?} for {want:?}, output {target:?}"));
         }
@@ -124,11 +134,11 @@ fn random_writes() -> Tried {
         let count = random_length(&mut seeded, case);
         let bytes: Vec<u8> = (0..count).map(|_| seeded.next() as u8).collect();
         let needed = 9 * (count / 7 + 1);
-        let space = if case % 8 == 5 { seeded.below(needed as u64) as usize } else { needed + seeded.below(12) as usize };
-        let mut words = vec![LENT; space];
-        let mut after = vec![LENT; space];
-        let got = library::write6250(&bytes, &mut words);
-        let want = record6250::write(&bytes, &mut after);
+        let space = seeded.space(needed);
+        let mut words = vec![LENT; space + BEHIND];
+        let mut after = vec![LENT; space + BEHIND];
+        let got = library::write6250(&bytes, &mut words[..space]);
+        let want = record6250::write(&bytes, &mut after[..space]);
         if got != want || words != after {
             tried.wrong.push(format!("write {count} bytes into {space} words: {got:?} for {want:?}"));
         }

@@ -7,6 +7,9 @@ use std::fmt::Debug;
 pub const LENT: u16 = 0xA5C3;
 pub const LENT_BYTE: u8 = 0xC3;
 
+/// Elements behind a lent output, which no call may reach.
+pub const BEHIND: usize = 16;
+
 pub fn numbers(field: &str) -> Vec<u64> {
     field.split_whitespace().map(|word| word.parse().expect("a decimal number")).collect()
 }
@@ -29,16 +32,16 @@ fn compare<T: PartialEq + Debug>(got: Answer, want: Answer, output: &[T], after:
     if got == want && output == after { Ok(()) } else { Err(format!("{got:?}, output {output:?}")) }
 }
 
-/// An output as it was lent, with a result at its front.
+/// An output as it was lent and what lies behind it, with a result at its front.
 fn lent(space: usize, result: &[u16]) -> Vec<u16> {
-    let mut output = vec![LENT; space];
+    let mut output = vec![LENT; space + BEHIND];
     output[..result.len()].copy_from_slice(result);
     output
 }
 
 /// The same for an output of bytes.
 fn lent_bytes(space: usize, result: &[u8]) -> Vec<u8> {
-    let mut output = vec![LENT_BYTE; space];
+    let mut output = vec![LENT_BYTE; space + BEHIND];
     output[..result.len()].copy_from_slice(result);
     output
 }
@@ -46,7 +49,7 @@ fn lent_bytes(space: usize, result: &[u8]) -> Vec<u8> {
 fn write6250(fields: &[&str], space: usize) -> Result<(), String> {
     let bytes = bytes_of(fields[1]);
     let mut words = lent(space, &[]);
-    let got = library::write6250(&bytes, &mut words);
+    let got = library::write6250(&bytes, &mut words[..space]);
     match refused(fields[2]) {
         Some(want) => compare(got, want, &words, &lent(space, &[])),
         None => {
@@ -77,7 +80,7 @@ pub fn read6250(line: &str, reader: Reader) -> Result<(), String> {
     let head: Vec<&str> = fields[0].split_whitespace().collect();
     let space: usize = head[2].parse().unwrap();
     let mut output = lent_bytes(space, &[]);
-    let got = reader(direction_of(head[1])?, &words_of(fields[1]), &words_of(fields[2]), &mut output);
+    let got = reader(direction_of(head[1])?, &words_of(fields[1]), &words_of(fields[2]), &mut output[..space]);
     match refused(fields[3]) {
         Some(want) => compare(got, want, &output, &lent_bytes(space, &[])),
         None => {
@@ -92,7 +95,7 @@ pub fn write800(line: &str, writer: Writer800) -> Result<(), String> {
     let fields: Vec<&str> = line.split('|').collect();
     let space: usize = fields[0].split_whitespace().nth(1).unwrap().parse().unwrap();
     let mut characters = lent(space, &[]);
-    let got = writer(&bytes_of(fields[1]), &mut characters);
+    let got = writer(&bytes_of(fields[1]), &mut characters[..space]);
     match refused(fields[2]) {
         Some(want) => compare(got, want, &characters, &lent(space, &[])),
         None => {
@@ -108,7 +111,7 @@ pub fn read800(line: &str, reader: Reader800) -> Result<(), String> {
     let head: Vec<&str> = fields[0].split_whitespace().collect();
     let space: usize = head[2].parse().unwrap();
     let mut output = lent_bytes(space, &[]);
-    let got = reader(direction_of(head[1])?, &words_of(fields[1]), &mut output);
+    let got = reader(direction_of(head[1])?, &words_of(fields[1]), &mut output[..space]);
     match refused(fields[2]) {
         Some(want) => compare(got, want, &output, &lent_bytes(space, &[])),
         None => {
@@ -145,7 +148,7 @@ pub fn run(line: &str) -> Result<(), String> {
     }
     let space: usize = head[1].parse().unwrap();
     let mut target = lent(space, &[]);
-    let got = library::words(toward, &words_of(fields[1]), &mut target);
+    let got = library::words(toward, &words_of(fields[1]), &mut target[..space]);
     match refused(fields[2]) {
         Some(want) => compare(got, want, &target, &lent(space, &[])),
         None => compare(got, Answer::Delivered(vec![]), &target, &lent(space, &words_of(fields[3]))),
