@@ -11,6 +11,7 @@ mod reading6250;
 mod reading800;
 mod record6250;
 mod record800;
+mod short_cuts;
 mod vectors;
 
 use library::{Direction, Toward};
@@ -180,6 +181,7 @@ fn suites_at_6250() -> Vec<Suite> {
         ("writing at 6250, outside cases", vector_file("write6250.txt", vectors::run)),
         ("reading at 6250, outside cases", vector_file("read6250.txt", vectors::run)),
         ("the 6250 reader of these tests, outside cases", vector_file("read6250.txt", |line| vectors::read6250(line, reading6250::read))),
+        ("the 6250 reader of these tests, without its short cuts", short_cuts::groups()),
         ("bench readings at 6250", bench::readings6250()),
         ("seeded writes at 6250", random_writes()),
         ("every number in a group at 6250, forward", damage6250::every_number(Direction::Forward)),
@@ -196,6 +198,7 @@ fn suites_at_800() -> Vec<Suite> {
         ("reading at 800, outside cases", vector_file("read800.txt", vectors::run)),
         ("the 800 writer of these tests, outside cases", vector_file("write800.txt", |line| vectors::write800(line, record800::write))),
         ("the 800 reader of these tests, outside cases", vector_file("read800.txt", |line| vectors::read800(line, reading800::read))),
+        ("the 800 reader of these tests, without its short cut", short_cuts::records()),
         ("bench readings at 800", bench::readings800()),
         ("seeded writes at 800", damage800::random_writes()),
         ("every number in a record at 800, forward", damage800::every_number(Direction::Forward)),

@@ -11,7 +11,7 @@ pub fn byte_of(word: u16) -> Option<u8> {
 }
 
 /// The information bytes in nine track values, B7 first.
-fn information(tracks: &[u8; 9]) -> [u8; 7] {
+pub fn information(tracks: &[u8; 9]) -> [u8; 7] {
     let mut info = [0u8; 7];
     for i in 1..8 {
         for j in 0..8 {
@@ -67,7 +67,7 @@ fn pointed_twice(read: &[u8; 9], first: usize, second: usize) -> Vec<[u8; 9]> {
 }
 
 /// The one group of the code that fits nine words under a map, or the number of the refusal.
-fn fitting(words: &[u16], map: u16) -> Result<[u8; 9], u16> {
+pub fn fitting(words: &[u16], map: u16) -> Result<[u8; 9], u16> {
     let mut read = [0u8; 9];
     let mut pointed = vec![];
     for track in 0..9 {

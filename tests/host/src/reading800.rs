@@ -18,12 +18,12 @@ fn candidate(characters: &[u16], track: usize) -> Vec<u16> {
 }
 
 /// The data bytes in the characters of a record.
-fn data_of(record: &[u16]) -> Vec<u8> {
+pub fn data_of(record: &[u16]) -> Vec<u8> {
     record[..record.len() - 2].iter().map(|&character| character as u8).collect()
 }
 
 /// The different written records among the nine candidates.
-fn fitting(characters: &[u16]) -> Vec<Vec<u16>> {
+pub fn fitting(characters: &[u16]) -> Vec<Vec<u16>> {
     let mut fits = vec![];
     for track in 0..9 {
         let candidate = candidate(characters, track);
