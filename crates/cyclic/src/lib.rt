@@ -17,10 +17,26 @@ pub struct Code800 {
 impl Code800 {
     // G = 1 + X^3 + X^4 + X^5 + X^6 + X^9.
     pub const GENERATOR: u16 = 633;
+    // The first positive power of X that is the identity modulo G.
+    pub const EXPONENT: usize = 17;
+    // The error-pattern register is ahead of E by so many powers of X: a wrong character adds X^8 to it.
+    pub const AHEAD: usize = 8;
     // G2, which is added to the check character: what the check register holds after a record without error.
     pub const OFFSET: u16 = 471;
-    // A record's data are at most so many bytes.
+    // The tracks of a character, and the largest number that they hold.
+    pub const TRACKS: usize = 9;
+
+    pub const MOST_CHARACTER: u16 = 511;
+    // A record's data are 1 to 2,048 bytes.
+    pub const LEAST_DATA: usize = 1;
+
     pub const MOST_DATA: usize = 2048;
+    // Behind the data characters stand the check character and the longitudinal character.
+    pub const CHECKS: usize = 2;
+    // So a record has 3 to 2,050 characters.
+    pub const LEAST_LENGTH: usize = Code800::LEAST_DATA + Code800::CHECKS;
+
+    pub const MOST_LENGTH: usize = Code800::MOST_DATA + Code800::CHECKS;
 
     // Both registers before any character: all zeros.
     pub fn fresh() -> Code800
@@ -49,7 +65,7 @@ pub fn shift(a: u16) -> u16
     ensures { λ r. ⌜ r ≡ timesX a ⌝ }
 {
     let doubled = a * 2;
-    if doubled < 512 {
+    if doubled <= Code800::MOST_CHARACTER {
         doubled
     } else {
         doubled ^ Code800::GENERATOR

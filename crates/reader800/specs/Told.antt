@@ -7,7 +7,7 @@ use lib.ListN.{length, getD}
 use Rattle.indexed.specs.List.{tabulate}
 use Rattle.register.specs.Shift.{shifts}
 use Rattle.answer.specs.Answer.{Answer, delivered, toldRefusal}
-use Rattle.cyclic.specs.Constants.{feedback}
+use Rattle.cyclic.specs.Constants.{feedback, ahead, tracks}
 use Rattle.record800.specs.Read.{candidate, checkRead, errorPattern, longitudinalRead, wrongCount}
 use Rattle.reader800.specs.declared.Read.{Read}
 use Rattle.reader800.specs.declared.Read.the-variants.{Delivered, Refused}
@@ -23,13 +23,13 @@ toldRead (Refused r) = toldRefusal r
 abbrev pub GatheredAre : Gathered → ℕ → List ℕ → Type 0
 GatheredAre g n characters =
     (g .check ≡ checkRead n characters)
-    × (g .error ≡ shifts 9 feedback 8 (errorPattern n characters))
+    × (g .error ≡ shifts 9 feedback ahead (errorPattern n characters))
     × (g .longitudinal ≡ longitudinalRead n characters)
     × (g .wrong ≡ wrongCount n characters)
 
 -- the number of the tracks that hold, and the first of them, or 9
 abbrev pub FoundIs : Found → List ℕ → Type 0
-FoundIs found tracks = (found .count ≡ length tracks) × (found .track ≡ getD tracks 0 9)
+FoundIs found held = (found .count ≡ length held) × (found .track ≡ getD held 0 tracks)
 
 -- the data of the candidate for a track
 unfoldable pub storedData : ℕ → List ℕ → ℕ → List ℕ

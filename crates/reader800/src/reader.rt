@@ -20,7 +20,7 @@ ghost use Rattle.register.specs.Parity.{parity};
 ghost use Rattle.register.specs.Shift.{shifts};
 ghost use Rattle.register.specs.Xor.{_⊕_};
 ghost use Rattle.answer.specs.Answer.{refusedFor, outputAfter};
-ghost use Rattle.cyclic.specs.Constants.{feedback, offset};
+ghost use Rattle.cyclic.specs.Constants.{feedback, exponent, ahead, offset, tracks};
 ghost use Rattle.record800.specs.Fits.{Passes};
 ghost use Rattle.record800.specs.Read.{picture, judgedAnswer, lengthSuits, firstStray, readData, readAnswer};
 ghost use Rattle.reader800.specs.Told.{toldRead, GatheredAre, FoundIs, storedData};
@@ -59,7 +59,7 @@ fn gather(characters: &[u16], backward: bool, parities: &[u16]) -> Gathered
     requires { ⌜ Passes backward (now characters) × (now parities ≡ tabulate 512 parity) ⌝ }
     ensures { λ r. ⌜ GatheredAre r (length (now (characters .entry)) - 2) (picture backward (now (characters .entry))) ⌝ }
 {
-    let n = characters.len() - 2;
+    let n = characters.len() - Code800::CHECKS;
     let mut registers = Code800::fresh();
     let mut longitudinal: u16 = 0;
     let mut wrong: usize = 0;
@@ -86,14 +86,17 @@ fn gather(characters: &[u16], backward: bool, parities: &[u16]) -> Gathered
     }
 }
 
-// X^9 times a register. X^17 is the identity, so it takes the error-pattern register, X^8 E, to E.
+// So many shifts take the error-pattern register, X^8 E, to E: the exponent of X is 17.
+const SHIFTS_BACK: usize = Code800::EXPONENT - Code800::AHEAD;
+
+// A register shifted so often.
 fn unshifted(error: u16) -> u16
     requires { ⌜ error < 512 ⌝ }
-    ensures { λ r. ⌜ r ≡ shifts 9 feedback 9 error ⌝ }
+    ensures { λ r. ⌜ r ≡ shifts 9 feedback (exponent - ahead) error ⌝ }
 {
     let mut pattern = error;
     let mut k: usize = 0;
-    while k < 9 {
+    while k < SHIFTS_BACK {
         pattern = shift(pattern);
         k += 1;
     }
@@ -112,7 +115,7 @@ fn agree(check: u16, longitudinal: u16, changed: u16) -> bool
 
 // One track more, which holds or does not.
 fn counted(found: Found, track: usize, holds: bool) -> Found
-    requires { ⌜ found .count < 9 ⌝ }
+    requires { ⌜ found .count < tracks ⌝ }
     ensures { λ r. ⌜ ((l : List ℕ) → FoundIs found l → FoundIs r (l ++ cond holds (track ∷ []) [])) ⌝ }
 {
     if holds {
@@ -131,12 +134,15 @@ fn counted(found: Found, track: usize, holds: bool) -> Found
 // parity of the number of wrong ones.
 fn located(check: u16, pattern: u16, longitudinal: u16, odd: u16) -> Found
     requires { ⌜ (pattern < 512) × (odd < 2) ⌝ }
-    ensures { λ r. ⌜ FoundIs r (keep (λ j. eqb (check ⊕ shifts 9 feedback j pattern) offset && eqb longitudinal (odd * 2 ^ j)) (below 9)) ⌝ }
+    ensures { λ r. ⌜ FoundIs r (keep (λ j. eqb (check ⊕ shifts 9 feedback j pattern) offset && eqb longitudinal (odd * 2 ^ j)) (below tracks)) ⌝ }
 {
-    let mut found = Found { count: 0, track: 9 };
+    let mut found = Found {
+        count: 0,
+        track: Code800::TRACKS,
+    };
     let mut shifted = pattern;
     let mut j = 0;
-    while j < 9 {
+    while j < Code800::TRACKS {
         let holds = agree(check ^ shifted, longitudinal, odd << j);
         found = counted(found, j, holds);
         shifted = shift(shifted);
@@ -156,13 +162,13 @@ fn decided(characters: &[u16], backward: bool, parities: &[u16]) -> Read
     requires { ⌜ Passes backward (now characters) × (now parities ≡ tabulate 512 parity) ⌝ }
     ensures { λ r. ⌜ toldRead r ≡ judgedAnswer (length (now (characters .entry)) - 2) (picture backward (now (characters .entry))) ⌝ }
 {
-    let n = characters.len() - 2;
+    let n = characters.len() - Code800::CHECKS;
     let gathered = gather(characters, backward, parities);
     if gathered.wrong == 0 {
         if agree(gathered.check, gathered.longitudinal, 0) {
             return Read::Delivered(Figures {
                 length: n,
-                track: 9,
+                track: Code800::TRACKS,
                 changes: 0,
             });
         }
@@ -189,7 +195,7 @@ fn store(characters: &[u16], backward: bool, track: usize, parities: &[u16], out
     requires { ⌜ Passes backward (now characters) × (track < 10) × (length (now characters) - 2 ≤ length (now output)) × (now parities ≡ tabulate 512 parity) ⌝ }
     ensures { λ _. ⌜ now (output .exit) ≡ storedData (length (now (characters .entry)) - 2) (picture backward (now (characters .entry))) track ++ drop (length (now (characters .entry)) - 2) (now (output .entry)) ⌝ }
 {
-    let n = characters.len() - 2;
+    let n = characters.len() - Code800::CHECKS;
     let mut k = 0;
     while k < n {
         let next = forward_character(characters, backward, k);
@@ -204,12 +210,12 @@ fn store(characters: &[u16], backward: bool, track: usize, parities: &[u16], out
 fn first_stray(characters: &[u16], backward: bool) -> usize
     ensures { λ r. ⌜ r ≡ firstStray backward (now (characters .entry)) ⌝ }
 {
-    if union(characters) < 512 {
+    if union(characters) <= Code800::MOST_CHARACTER {
         return characters.len();
     }
     let mut k = 0;
     while k < characters.len() {
-        if forward_character(characters, backward, k) > 511 {
+        if forward_character(characters, backward, k) > Code800::MOST_CHARACTER {
             return k;
         }
         k += 1;
@@ -221,10 +227,10 @@ fn first_stray(characters: &[u16], backward: bool) -> usize
 fn length_suits(count: usize) -> bool
     ensures { λ r. ⌜ r ≡ lengthSuits count ⌝ }
 {
-    if count < 3 {
+    if count < Code800::LEAST_LENGTH {
         return false;
     }
-    count <= Code800::MOST_DATA + 2
+    count <= Code800::MOST_LENGTH
 }
 
 // Reads a record, forward or backward.
@@ -236,7 +242,7 @@ fn read(characters: &[u16], backward: bool, output: &mut [u8]) -> Read
     if !length_suits(count) {
         return refused(Reason::Length, 0);
     }
-    if output.len() < count - 2 {
+    if output.len() < count - Code800::CHECKS {
         return refused(Reason::Space, 0);
     }
     let stray = first_stray(characters, backward);

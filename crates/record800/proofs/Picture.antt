@@ -18,9 +18,9 @@ use Rattle.indexed.proofs.First.{first-none, first-before}
 use Rattle.indexed.proofs.Tabulate.{length-tabulate, getD-tabulate}
 use Rattle.register.specs.Union.{unionOf}
 use Rattle.register.proofs.Or.{below-union}
+use Rattle.cyclic.specs.Constants.{leastData, mostData, checks}
 use Rattle.record800.specs.Fits.{Passes}
 use Rattle.record800.specs.Read.{picture, lengthSuits, firstStray}
-use Rattle.record800.specs.Record.{mostData}
 use Rattle.record800.proofs.Candidate.{both-true}
 use Rattle.indexed.proofs.Turned.{turned-lt, turned-twice}
 
@@ -62,7 +62,7 @@ module _ (backward : Bool) (characters : List ℕ) (passes : Passes backward cha
   pub lengths-within : (3 ≤ length characters) × (length characters ≤ 2050)
   unfolding lengthSuits
   lengths-within =
-      let b = both-true (leb 3 (length characters)) (leb (length characters) (mostData + 2)) (passes .lengths) in
+      let b = both-true (leb (leastData + checks) (length characters)) (leb (length characters) (mostData + checks)) (passes .lengths) in
       (leb-true _ _ (b .0), leb-true _ _ (b .1))
 
   -- the data characters, the check character and the longitudinal one

@@ -9,12 +9,13 @@ use lib.ListN.{length, getD}
 use Rattle.indexed.specs.Differ.{differences}
 use Rattle.indexed.specs.List.{firstBelow}
 use Rattle.register.specs.Bit.{bit}
+use Rattle.cyclic.specs.Constants.{tracks, leastData, mostData, checks}
 use Rattle.record800.specs.Read.{picture, lengthSuits, firstStray}
-use Rattle.record800.specs.Record.{mostData, writtenRecord}
+use Rattle.record800.specs.Record.{writtenRecord}
 
 -- data within the limits
 pub record IsData (bytes : List ℕ) : Type 0 where
-  pub some : 1 ≤ length bytes
+  pub some : leastData ≤ length bytes
   pub within : length bytes ≤ mostData
   pub are-bytes : (k : ℕ) → getD bytes k 0 < 256
 
@@ -28,16 +29,16 @@ module _ (backward : Bool) (characters : List ℕ) where
   -- bit does in any of the characters
   pub record Fits (bytes : List ℕ) : Type 0 where
     pub are-data : IsData bytes
-    pub as-long : length bytes + 2 ≡ length characters
+    pub as-long : length bytes + checks ≡ length characters
     pub track : ℕ
-    pub is-track : track < 9
-    pub one-track : (t : ℕ) → t < 9 → (t ≡ track → ⊥) → (k : ℕ) → k < length characters
+    pub is-track : track < tracks
+    pub one-track : (t : ℕ) → t < tracks → (t ≡ track → ⊥) → (k : ℕ) → k < length characters
         → bit t (getD (picture backward characters) k 0) ≡ bit t (getD (writtenRecord bytes) k 0)
 
   -- the track in which the reading's forward picture differs from the written record, or 9, and in how many characters it does
   unfoldable pub trackChanged : List ℕ → ℕ
   trackChanged bytes =
-      firstBelow 9 (λ t. ltb 0
+      firstBelow tracks (λ t. ltb 0
       (differences (length characters) (λ k. bit t (getD (picture backward characters) k 0)) (λ k. bit t (getD (writtenRecord bytes) k 0))))
 
   unfoldable pub charactersChanged : List ℕ → ℕ

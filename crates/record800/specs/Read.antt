@@ -12,8 +12,8 @@ use Rattle.register.specs.Sum.{xorSum}
 use Rattle.register.specs.Xor.{_⊕_}
 use Rattle.answer.specs.Answer.{Answer, delivered, refusedFor, firstAbove}
 use Rattle.answer.specs.declared.Reason.the-variants.{Length, Space, StrayBits, NoRecord, SeveralRecords}
-use Rattle.cyclic.specs.Constants.{feedback, offset}
-use Rattle.record800.specs.Record.{mostData, checkSum}
+use Rattle.cyclic.specs.Constants.{feedback, offset, tracks, mostCharacter, leastData, mostData, checks}
+use Rattle.record800.specs.Record.{checkSum}
 
 -- the forward picture: backward, the characters come last first, bits unchanged
 unfoldable pub picture : Bool → List ℕ → List ℕ
@@ -38,13 +38,13 @@ module _ (n : ℕ) (characters : List ℕ) where
 
   -- the exclusive-or of all characters, and the parity of the number of wrong ones
   unfoldable pub longitudinalRead : ℕ
-  longitudinalRead = xorSum (n + 2) (λ k. getD characters k 0)
+  longitudinalRead = xorSum (n + checks) (λ k. getD characters k 0)
 
   unfoldable pub wrongParity : ℕ
-  wrongParity = xorSum (n + 2) wrong
+  wrongParity = xorSum (n + checks) wrong
 
   unfoldable pub wrongCount : ℕ
-  wrongCount = total (n + 2) wrong
+  wrongCount = total (n + checks) wrong
 
   -- A written record that differs in track j only has bit j changed in the wrong characters, and no other: the candidate.
   unfoldable pub candidate : ℕ → ℕ → ℕ
@@ -60,29 +60,29 @@ module _ (n : ℕ) (characters : List ℕ) where
   oneOf (j ∷ []) = delivered (n ∷ j ∷ wrongCount ∷ [])
   oneOf (i ∷ j ∷ more) = refusedFor SeveralRecords 0
 
-  -- with no wrong parity the nine candidates are the reading itself; otherwise they are nine different ones
+  -- with no wrong parity the nine candidates are the reading itself, and 9 is told for the track; otherwise they are nine different ones
   unfoldable pub judgedAnswer : Answer
   judgedAnswer =
-      cond (eqb wrongCount 0) (cond (holds 0) (delivered (n ∷ 9 ∷ 0 ∷ [])) (refusedFor NoRecord 0)) (oneOf (keep holds (below 9)))
+      cond (eqb wrongCount 0) (cond (holds 0) (delivered (n ∷ tracks ∷ 0 ∷ [])) (refusedFor NoRecord 0)) (oneOf (keep holds (below tracks)))
 
   unfoldable pub judgedData : List ℕ
-  judgedData = tabulate n (λ k. candidate (firstBelow 9 holds) k % 256)
+  judgedData = tabulate n (λ k. candidate (firstBelow tracks holds) k % 256)
 
 -- 3 to 2,050 characters
 unfoldable pub lengthSuits : ℕ → Bool
-lengthSuits count = leb 3 count && leb count (mostData + 2)
+lengthSuits count = leb (leastData + checks) count && leb count (mostData + checks)
 
 unfoldable pub firstStray : Bool → List ℕ → ℕ
-firstStray backward characters = firstAbove 511 (picture backward characters)
+firstStray backward characters = firstAbove mostCharacter (picture backward characters)
 
 unfoldable pub readData : Bool → List ℕ → List ℕ
-readData backward characters = judgedData (length characters - 2) (picture backward characters)
+readData backward characters = judgedData (length characters - checks) (picture backward characters)
 
 unfoldable pub readAnswer : Bool → List ℕ → ℕ → Answer
 readAnswer backward characters space =
     cond (lengthSuits (length characters))
-    (cond (leb (length characters - 2) space)
+    (cond (leb (length characters - checks) space)
     (cond (ltb (firstStray backward characters) (length characters)) (refusedFor StrayBits (firstStray backward characters))
-    (judgedAnswer (length characters - 2) (picture backward characters)))
+    (judgedAnswer (length characters - checks) (picture backward characters)))
     (refusedFor Space 0))
     (refusedFor Length 0)

@@ -9,10 +9,6 @@ use Rattle.register.specs.Sum.{xorSum}
 use Rattle.register.specs.Xor.{_⊕_}
 use Rattle.cyclic.specs.Constants.{feedback, offset}
 
--- the data are 1 to 2,048 bytes
-abbrev pub mostData : ℕ
-mostData = 2048
-
 -- track k, 0 to 7, holds bit k of the byte, and track 8 makes the number of ones odd
 unfoldable pub characterOf : ℕ → ℕ
 characterOf byte = byte + 256 * (1 - parity byte)

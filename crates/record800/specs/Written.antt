@@ -6,9 +6,11 @@ use mathlib.Core.List.{[], _∷_}
 use lib.Dec.{leb}
 use Rattle.answer.specs.Answer.{Answer, delivered, refusedFor}
 use Rattle.answer.specs.declared.Reason.the-variants.{Length, Space}
-use Rattle.record800.specs.Record.{mostData}
+use Rattle.cyclic.specs.Constants.{leastData, mostData, checks}
 
 -- the answer for so many bytes of data and so much space: refusals 1 and 2 in this order, or the number of characters
 unfoldable pub writeAnswer : ℕ → ℕ → Answer
 writeAnswer size space =
-    cond (leb 1 size && leb size mostData) (cond (leb (size + 2) space) (delivered ((size + 2) ∷ [])) (refusedFor Space 0)) (refusedFor Length 0)
+    cond (leb leastData size && leb size mostData)
+    (cond (leb (size + checks) space) (delivered ((size + checks) ∷ [])) (refusedFor Space 0))
+    (refusedFor Length 0)

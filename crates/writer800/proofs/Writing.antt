@@ -27,9 +27,9 @@ module _ (size space : ℕ) where
   abbrev after : Bool → Bool → Bool → Answer
   after p q r = cond (p && q) (cond r (delivered ((size + 2) ∷ [])) (refused 2 0)) (refused 1 0)
 
-  pub empty-refused : size ≡ 0 → writeAnswer size space ≡ refused 1 0
+  pub empty-refused : size < 1 → writeAnswer size space ≡ refused 1 0
   unfolding writeAnswer
-  empty-refused e = ap (λ (p : Bool). after p (leb size 2048) (leb (size + 2) space)) (lt-leb 1 size (omega arith))
+  empty-refused h = ap (λ (p : Bool). after p (leb size 2048) (leb (size + 2) space)) (lt-leb 1 size h)
 
   module _ (some : 1 ≤ size) where
     pub long-refused : 2048 < size → writeAnswer size space ≡ refused 1 0

@@ -52,7 +52,7 @@ pub fn write(bytes: &[u8], characters: &mut [u16]) -> Written
     ensures terms { λ r. ⌜ Terms (Call.write bpi800 (now (bytes .entry))) (toldWritten r) (now (characters .entry)) (now (characters .exit)) ⌝ }
 {
     let n = bytes.len();
-    if n == 0 {
+    if n < Code800::LEAST_DATA {
         return Written::Refused(Refusal {
             reason: Reason::Length,
             place: 0,
@@ -64,7 +64,7 @@ pub fn write(bytes: &[u8], characters: &mut [u16]) -> Written
             place: 0,
         });
     }
-    if characters.len() < n + 2 {
+    if characters.len() < n + Code800::CHECKS {
         return Written::Refused(Refusal {
             reason: Reason::Space,
             place: 0,
@@ -75,5 +75,5 @@ pub fn write(bytes: &[u8], characters: &mut [u16]) -> Written
     let check = shift(sums.check) ^ Code800::OFFSET;
     characters[n] = check;
     characters[n + 1] = sums.longitudinal ^ check;
-    Written::Delivered(n + 2)
+    Written::Delivered(n + Code800::CHECKS)
 }

@@ -26,7 +26,7 @@ union-requires : tie.Need-union-requires Inv-loop μ-loop
 union-requires c κs = tt
 
 returns : tie.Need-returns Inv-loop μ-loop
-returns c = sym (none-stray _ _ (rw (← (c .before .union .ensures)) (c .if1 .taken)))
+returns c = sym (none-stray _ _ (rw (← (c .before .union .ensures)) (omega (arith, c .if1 .taken))))
 
 loop-holds : tie.Need-loop-holds Inv-loop μ-loop
 loop-holds c = (search needs, below-none _)

@@ -5,7 +5,6 @@ use mathlib.Core.Bool.{Bool, _&&_}
 use borrow.Author.Tests.{le-leb, lt-leb}
 use lib.Dec.{leb}
 use Rattle.record800.specs.Read.{lengthSuits}
-use borrow.Author.Needs.{needs}
 use Rattle.reader800.proofs.reader.length_suits.Statement.{statement}
 use Rattle.reader800.proofs.reader.length_suits.Tie as tie
 
@@ -15,9 +14,6 @@ returns c =
     let count = c .before .args .count in
     sym (ap (λ (b : Bool). b && leb count 2050) (lt-leb 3 count (c .if1 .taken)))
 
-add-result : tie.Need-add-result
-add-result c = search needs
-
 returns-2 : tie.Need-returns-2
 unfolding lengthSuits
 returns-2 c =
@@ -25,4 +21,4 @@ returns-2 c =
     sym (ap (λ (b : Bool). b && leb count 2050) (le-leb 3 count (c .if1 .left)))
 
 pub length-suits-spec : {M : Type 1} → statement M
-length-suits-spec = tie.close (tie.spec returns add-result returns-2)
+length-suits-spec = tie.close (tie.spec returns returns-2)

@@ -25,7 +25,7 @@ returns-2 : tie.Need-returns-2
 unfolding outputAfter answerTo resultOf writtenRecord
 returns-2 c =
     let bytes = now (c .before .before .before .before .args .bytes) in
-    with-terms _ _ _ (write bpi800 bytes) (sym (long-refused (length bytes) _ (omega (arith, c .before .if1 .left)) (c .if2 .taken))) refl
+    with-terms _ _ _ (write bpi800 bytes) (sym (long-refused (length bytes) _ (c .before .if1 .left) (c .if2 .taken))) refl
 
 add-if3 : tie.Need-add-if3
 add-if3 c = search needs
@@ -35,7 +35,7 @@ unfolding outputAfter answerTo resultOf writtenRecord
 returns-3 c =
     let bytes = now (c .before .before .before .before .before .args .bytes) in
     with-terms _ _ _ (write bpi800 bytes)
-    (sym (space-refused (length bytes) _ (omega (arith, c .before .before .if1 .left)) (c .before .if2 .left) (c .if3 .taken))) refl
+    (sym (space-refused (length bytes) _ (c .before .before .if1 .left) (c .before .if2 .left) (c .if3 .taken))) refl
 
 data-characters-requires : tie.Need-data-characters-requires
 data-characters-requires c κs = search needs
@@ -96,7 +96,7 @@ returns-4 c =
     let sums = data-written .write-data in
     let check = c .before .shift .result ⊕ 471 in
     with-terms _ _ _ (write bpi800 bytes)
-    (sym (written-answer (length bytes) _ (omega (arith, tests .before .before .if1 .left)) (tests .before .if2 .left) (tests .if3 .left)))
+    (sym (written-answer (length bytes) _ (tests .before .before .if1 .left) (tests .before .if2 .left) (tests .if3 .left)))
     (ap (λ (l : List ℕ). set (set l (length bytes) check) (length bytes + 1) (sums .result .longitudinal ⊕ check)) (sums .ensures .0)
     ∙ all-stored bytes below (now (args .characters)) check _ (tests .if3 .left)
     (ap (λ (x : ℕ). x ⊕ 471) (c .before .shift .ensures) ∙ check-is bytes below (sums .result .check) (sums .ensures .1 .0))
