@@ -2,30 +2,21 @@
 // (document 000, note 11; document 01, "Head order").
 pub mod to_algebraic;
 pub mod to_physical;
+mod track;
 
 use answer::Reason;
 use answer::Refusal;
 ghost use mathlib.Core.Path.{_≡_};
-ghost use Prim.Native.Nat.{ℕ, _-_, _≤_, _<_};
+ghost use Prim.Native.Nat.{ℕ, _<_};
 ghost use lib.ListN.{length, getD};
 ghost use Rattle.register.specs.Bit.{bitsOf, ofBits};
-ghost use Rattle.track_order.specs.Order.{order};
 ghost use Rattle.track_order.specs.Moved.{wordsAnswer};
 ghost use Rattle.head_order.specs.Told.{toldWords};
-
-// A track of the head, 1 to 9.
-pub struct PhysicalTrack(pub usize);
-
-// A track of the code, 0 to 8.
-pub struct AlgebraicTrack(pub usize);
 
 // The largest word, of ten bits, and the largest map, of nine.
 const MOST_WORD: u16 = 1023;
 
 const MOST_MAP: u16 = 511;
-
-// Note 11: the algebraic tracks on physical tracks 1 to 9.
-const ORDER: [usize; 9] = [1, 4, 7, 8, 3, 6, 0, 2, 5];
 
 // What moving nine words answers.
 pub enum MovedWords {
@@ -37,15 +28,6 @@ pub enum MovedWords {
 pub enum MovedMap {
     Delivered(u16),
     Refused(Refusal),
-}
-
-// The only way from one numbering to the other.
-fn algebraic(track: PhysicalTrack) -> AlgebraicTrack
-    requires { ⌜ (1 ≤ track .0) × (track .0 ≤ 9) ⌝ }
-    ensures { λ r. ⌜ r .0 ≡ getD order (track .0 - 1) 0 ⌝ }
-{
-    let place = track.0 - 1;
-    AlgebraicTrack(ORDER[place])
 }
 
 // The nine bits of a map, bit k at k.

@@ -1,7 +1,7 @@
 // From head order to code order.
 use crate::MovedMap;
 use crate::MovedWords;
-use crate::PhysicalTrack;
+use crate::track::PhysicalTrack;
 use answer::Reason;
 use answer::Refusal;
 ghost use mathlib.Core.Path.{_≡_};
@@ -22,8 +22,7 @@ fn arrange(source: &[u16], target: &mut [u16])
 {
     let mut place = 0;
     while place < 9 {
-        let track = crate::algebraic(PhysicalTrack(place + 1));
-        let to = track.0;
+        let to = PhysicalTrack::at(place).algebraic().place();
         target[to] = source[place];
         place += 1;
     }

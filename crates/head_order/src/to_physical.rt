@@ -1,7 +1,7 @@
 // From code order to head order.
 use crate::MovedMap;
 use crate::MovedWords;
-use crate::PhysicalTrack;
+use crate::track::PhysicalTrack;
 use answer::Reason;
 use answer::Refusal;
 ghost use mathlib.Core.Path.{_≡_};
@@ -22,8 +22,7 @@ fn arrange(source: &[u16], target: &mut [u16])
 {
     let mut place = 0;
     while place < 9 {
-        let track = crate::algebraic(PhysicalTrack(place + 1));
-        let from = track.0;
+        let from = PhysicalTrack::at(place).algebraic().place();
         target[place] = source[from];
         place += 1;
     }

@@ -25,12 +25,13 @@ order-permutation = record {
   onto = λ a h. ltb→lt _ _ (tested 9 (λ a. ltb (indexIn order a) 9) tt a h);
 }
 
--- the algebraic track on the physical track at index k, as the loops ask for it: physical track k + 1
-pub on-track : (a k : ℕ) → a ≡ getD order (k + 1 - 1) 0 → a ≡ getD order k 0
-on-track a k e = e ∙ ap (λ (j : ℕ). getD order j 0) (omega arith)
+-- the place of the algebraic track on the physical track at place k, as the loops ask for it: physical track k + 1
+pub on-track : (k : ℕ) {physical algebraic place : ℕ} → physical ≡ k + 1 → algebraic ≡ getD order (physical - 1) 0 → place ≡ algebraic
+    → place ≡ getD order k 0
+on-track k made crossed is = is ∙ crossed ∙ ap (λ (j : ℕ). getD order j 0) (omega (arith, made))
 
-pub on-track-below : (a k : ℕ) → k < 9 → a ≡ getD order (k + 1 - 1) 0 → a < 9
-on-track-below a k h e = rw (on-track a k e) (order-permutation .below k h)
+pub on-track-below : (k : ℕ) {place : ℕ} → k < 9 → place ≡ getD order k 0 → place < 9
+on-track-below k h e = rw e (order-permutation .below k h)
 
 -- ---- arranged by one list of places, and then by another that undoes it
 

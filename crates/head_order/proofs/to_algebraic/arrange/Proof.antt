@@ -25,11 +25,14 @@ loop-holds : tie.Need-loop-holds Inv-loop μ-loop
 unfolding scattered
 loop-holds c = (search needs, refl, refl)
 
-add-target : tie.Need-add-target Inv-loop μ-loop
-add-target c = search needs
+at-requires : tie.Need-at-requires Inv-loop μ-loop
+at-requires c κs = search needs
 
 algebraic-requires : tie.Need-algebraic-requires Inv-loop μ-loop
 algebraic-requires c κs = search needs
+
+place-requires : tie.Need-place-requires Inv-loop μ-loop
+place-requires c κs = search needs
 
 mul-target : tie.Need-mul-target Inv-loop μ-loop
 mul-target c = search needs
@@ -39,11 +42,13 @@ shared-slice-read-target c = search needs
 
 mul-target-2 : tie.Need-mul-target-2 Inv-loop μ-loop
 mul-target-2 c =
-    omega (arith, on-track-below _ (c .before .before .before .loop .place) (c .before .before .loop-test .taken) (c .before .algebraic .ensures))
+    let to = c .before in
+    omega (arith, on-track-below _ (to .before .before .before .loop-test .taken) (on-track _ (to .before .before .at .ensures) (to .before .algebraic .ensures) (to .place .ensures)))
 
 slice-write-target : tie.Need-slice-write-target Inv-loop μ-loop
 slice-write-target c =
-    omega (arith, on-track-below _ (c .before .before .before .loop .place) (c .before .before .loop-test .taken) (c .before .algebraic .ensures))
+    let to = c .before in
+    omega (arith, on-track-below _ (to .before .before .before .loop-test .taken) (on-track _ (to .before .before .at .ensures) (to .before .algebraic .ensures) (to .place .ensures)))
 
 add-place : tie.Need-add-place Inv-loop μ-loop
 add-place c = search needs
@@ -54,12 +59,13 @@ loop-less c = search needs
 loop-again : tie.Need-loop-again Inv-loop μ-loop
 unfolding scattered
 loop-again c =
-    let at = c .before .before .before .loop in
-    let args = c .before .before .before .before .before .before .args in (
+    let to = c .before in
+    let at = to .before .before .before .before .loop in
+    let args = to .before .before .before .before .before .before .before .args in (
       search needs,
-      length-set (at .target) (c .before .algebraic .result .0) _ ∙ at .inv .1,
+      length-set (at .target) (to .place .result) _ ∙ at .inv .1,
       ap₂ (λ (l : List ℕ) (a : ℕ). set l a (getD (now (args .source)) (at .place) 0)) (at .inv .2)
-          (on-track _ (at .place) (c .before .algebraic .ensures))
+          (on-track _ (to .before .before .at .ensures) (to .before .algebraic .ensures) (to .place .ensures))
           ∙ ap (λ (k : ℕ). scattered order k (now (args .source)) (now (args .target))) (sym (add-one (at .place))),
     )
 
@@ -83,8 +89,9 @@ arrange-spec =
     Inv-loop
     μ-loop
     loop-holds
-    add-target
+    at-requires
     algebraic-requires
+    place-requires
     mul-target
     shared-slice-read-target
     mul-target-2

@@ -24,19 +24,23 @@ abbrev μ-loop : tie.MeasureT-loop
 loop-holds : tie.Need-loop-holds Inv-loop μ-loop
 loop-holds c = search needs
 
-add-target : tie.Need-add-target Inv-loop μ-loop
-add-target c = search needs
+at-requires : tie.Need-at-requires Inv-loop μ-loop
+at-requires c κs = search needs
 
 algebraic-requires : tie.Need-algebraic-requires Inv-loop μ-loop
 algebraic-requires c κs = search needs
 
+place-requires : tie.Need-place-requires Inv-loop μ-loop
+place-requires c κs = search needs
+
 mul-target : tie.Need-mul-target Inv-loop μ-loop
 mul-target c =
-    omega (arith, on-track-below _ (c .before .before .loop .place) (c .before .loop-test .taken) (c .algebraic .ensures))
+    omega (arith, on-track-below _ (c .before .before .before .loop-test .taken) (on-track _ (c .before .before .at .ensures) (c .before .algebraic .ensures) (c .place .ensures)))
 
 shared-slice-read-target : tie.Need-shared-slice-read-target Inv-loop μ-loop
 shared-slice-read-target c =
-    omega (arith, on-track-below _ (c .before .before .before .loop .place) (c .before .before .loop-test .taken) (c .before .algebraic .ensures))
+    let from = c .before in
+    omega (arith, on-track-below _ (from .before .before .before .loop-test .taken) (on-track _ (from .before .before .at .ensures) (from .before .algebraic .ensures) (from .place .ensures)))
 
 mul-target-2 : tie.Need-mul-target-2 Inv-loop μ-loop
 mul-target-2 c = search needs
@@ -53,12 +57,13 @@ loop-less c = search needs
 loop-again : tie.Need-loop-again Inv-loop μ-loop
 unfolding toPhysical
 loop-again c =
-    let at = c .before .before .before .loop in
-    let args = c .before .before .before .before .before .before .args in
+    let from = c .before in
+    let at = from .before .before .before .before .loop in
+    let args = from .before .before .before .before .before .before .before .args in
     let moved : List ℕ = toPhysical (now (args .source)) in
-    let word : getD (now (args .source)) (c .before .algebraic .result .0) 0 ≡ getD moved (at .place) 0 =
-    ap (λ (a : ℕ). getD (now (args .source)) a 0) (on-track _ (at .place) (c .before .algebraic .ensures))
-    ∙ sym (getD-arranged order (now (args .source)) (at .place) (c .before .before .loop-test .taken)) in (
+    let word : getD (now (args .source)) (from .place .result) 0 ≡ getD moved (at .place) 0 =
+    ap (λ (a : ℕ). getD (now (args .source)) a 0) (on-track _ (from .before .before .at .ensures) (from .before .algebraic .ensures) (from .place .ensures))
+    ∙ sym (getD-arranged order (now (args .source)) (at .place) (from .before .before .before .loop-test .taken)) in (
       search needs,
       length-set (at .target) (at .place) _ ∙ at .inv .1,
       ap₂ (λ (l : List ℕ) (w : ℕ). set l (at .place) w) (at .inv .2) word
@@ -85,8 +90,9 @@ arrange-spec =
     Inv-loop
     μ-loop
     loop-holds
-    add-target
+    at-requires
     algebraic-requires
+    place-requires
     mul-target
     shared-slice-read-target
     mul-target-2

@@ -1,24 +1,20 @@
--- `head_order::algebraic` meets its contract: the constant is the definition's order.
+-- `head_order::track::PhysicalTrack::algebraic` meets its contract: the constant is the definition's order.
 -- Assumes nothing.
 use mathlib.Core.Path.{refl}
 use Rattle.track_order.specs.Order.{order}
 use borrow.Author.Needs.{needs}
-use Rattle.head_order.proofs.algebraic.Statement.{statement}
-use Rattle.head_order.proofs.algebraic.Tie as tie
+use Rattle.head_order.proofs.track.PhysicalTrack.algebraic.Statement.{statement}
+use Rattle.head_order.proofs.track.PhysicalTrack.algebraic.Tie as tie
 
--- src/lib.rt:40:17
 sub-place : tie.Need-sub-place
 sub-place c = search needs
 
--- src/lib.rt:41:20
 mul-t4 : tie.Need-mul-t4
 mul-t4 c = search needs
 
--- src/lib.rt:41:20
 array-read-t7 : tie.Need-array-read-t7
 array-read-t7 c = search needs
 
--- src/lib.rt:36:1
 returns : tie.Need-returns
 unfolding order
 returns c = refl
