@@ -6,11 +6,12 @@ use generator::of_b4;
 use generator::of_b5;
 use generator::of_b6;
 use generator::of_b7;
+use rectangular::Code6250;
 ghost use mathlib.Core.Path.{_≡_};
 ghost use Prim.Native.Nat.{_<_, _≤_};
 ghost use lib.ListN.{length, getD, take};
 ghost use Rattle.indexed.specs.List.{tabulate};
-ghost use Rattle.rectangular.specs.Constants.{feedback};
+ghost use Rattle.rectangular.specs.Constants.{feedback, tracks};
 ghost use Rattle.rectangular.specs.Group as code;
 ghost use Rattle.group6250.specs.Packed.{bytesOf, valuesOf, parityByte, placedAt};
 
@@ -23,10 +24,10 @@ pub struct Group {
 impl Group {
     // The value of a track.
     pub fn value(self, track: usize) -> u8
-        requires { ⌜ track < 9 ⌝ }
+        requires { ⌜ track < tracks ⌝ }
         ensures { λ r. ⌜ r ≡ getD (valuesOf self) track 0 ⌝ }
     {
-        if track < 8 {
+        if track < Code6250::PARITY_TRACK {
             ((self.tracks >> (8 * track)) % 256) as u8
         } else {
             self.parity
@@ -36,10 +37,10 @@ impl Group {
 
 // A value where it stands among the tracks 0 to 7; that of the parity track stands elsewhere.
 pub fn placed(track: usize, value: u8) -> u64
-    requires { ⌜ track < 9 ⌝ }
+    requires { ⌜ track < tracks ⌝ }
     ensures { λ r. ⌜ r ≡ placedAt track value ⌝ }
 {
-    if track < 8 {
+    if track < Code6250::PARITY_TRACK {
         (value as u64) << (8 * track)
     } else {
         0

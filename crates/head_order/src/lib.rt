@@ -6,17 +6,14 @@ mod track;
 
 use answer::Reason;
 use answer::Refusal;
+use rectangular::Code6250;
 ghost use mathlib.Core.Path.{_≡_};
 ghost use Prim.Native.Nat.{ℕ, _<_};
 ghost use lib.ListN.{length, getD};
 ghost use Rattle.register.specs.Bit.{bitsOf, ofBits};
+ghost use Rattle.rectangular.specs.Constants.{tracks};
 ghost use Rattle.track_order.specs.Moved.{wordsAnswer};
 ghost use Rattle.head_order.specs.Told.{toldWords};
-
-// The largest word, of ten bits, and the largest map, of nine.
-const MOST_WORD: u16 = 1023;
-
-const MOST_MAP: u16 = 511;
 
 // What moving nine words answers.
 pub enum MovedWords {
@@ -31,12 +28,12 @@ pub enum MovedMap {
 }
 
 // The nine bits of a map, bit k at k.
-fn bits(map: u16) -> [u16; 9]
-    ensures { λ r. ⌜ r ≡ bitsOf 9 map ⌝ }
+fn bits(map: u16) -> [u16; Code6250::TRACKS]
+    ensures { λ r. ⌜ r ≡ bitsOf tracks map ⌝ }
 {
-    let mut found = [0u16; 9];
+    let mut found = [0u16; Code6250::TRACKS];
     let mut k = 0;
-    while k < 9 {
+    while k < Code6250::TRACKS {
         found[k] = (map >> k) % 2;
         k += 1;
     }
@@ -45,11 +42,11 @@ fn bits(map: u16) -> [u16; 9]
 
 // The map whose nine bits these are.
 fn map_of(bits: &[u16]) -> u16
-    requires { ⌜ (length (now bits) ≡ 9) × ((k : ℕ) → getD (now bits) k 0 < 2) ⌝ }
+    requires { ⌜ (length (now bits) ≡ tracks) × ((k : ℕ) → getD (now bits) k 0 < 2) ⌝ }
     ensures { λ r. ⌜ r ≡ ofBits (now (bits .entry)) ⌝ }
 {
     let mut map: u16 = 0;
-    let mut k = 9;
+    let mut k = Code6250::TRACKS;
     while k > 0 {
         k -= 1;
         map = map * 2 + bits[k];
@@ -61,20 +58,20 @@ fn map_of(bits: &[u16]) -> u16
 fn checked(source: &[u16], space: usize) -> MovedWords
     ensures { λ r. ⌜ toldWords r ≡ wordsAnswer (now (source .entry)) space ⌝ }
 {
-    if source.len() != 9 {
+    if source.len() != Code6250::TRACKS {
         return MovedWords::Refused(Refusal {
             reason: Reason::Length,
             place: 0,
         });
     }
-    if space < 9 {
+    if space < Code6250::TRACKS {
         return MovedWords::Refused(Refusal {
             reason: Reason::Space,
             place: 0,
         });
     }
-    let place = answer::first_above(source, MOST_WORD);
-    if place < 9 {
+    let place = answer::first_above(source, Code6250::MOST_WORD);
+    if place < Code6250::TRACKS {
         return MovedWords::Refused(Refusal {
             reason: Reason::StrayBits,
             place,

@@ -1,8 +1,10 @@
 // The two numberings of the tracks (document 000, note 11). Each keeps its number to itself, so that neither can stand
 // in for the other: a physical track is made from its place, and the order table is the only way across.
+use rectangular::Code6250;
 ghost use mathlib.Core.Path.{_≡_};
 ghost use Prim.Native.Nat.{_+_, _-_, _≤_, _<_};
 ghost use lib.ListN.{getD};
+ghost use Rattle.rectangular.specs.Constants.{tracks};
 ghost use Rattle.track_order.specs.Order.{order};
 
 // A track of the head, 1 to 9.
@@ -12,12 +14,12 @@ pub struct PhysicalTrack(usize);
 pub struct AlgebraicTrack(usize);
 
 // Note 11: the algebraic tracks on physical tracks 1 to 9.
-const ORDER: [usize; 9] = [1, 4, 7, 8, 3, 6, 0, 2, 5];
+const ORDER: [usize; Code6250::TRACKS] = [1, 4, 7, 8, 3, 6, 0, 2, 5];
 
 impl PhysicalTrack {
     // The track at a place of head order.
     pub fn at(place: usize) -> PhysicalTrack
-        requires { ⌜ place < 9 ⌝ }
+        requires { ⌜ place < tracks ⌝ }
         ensures { λ r. ⌜ r .0 ≡ place + 1 ⌝ }
     {
         PhysicalTrack(place + 1)
@@ -25,7 +27,7 @@ impl PhysicalTrack {
 
     // The only way from one numbering to the other.
     pub fn algebraic(self) -> AlgebraicTrack
-        requires { ⌜ (1 ≤ self .0) × (self .0 ≤ 9) ⌝ }
+        requires { ⌜ (1 ≤ self .0) × (self .0 ≤ tracks) ⌝ }
         ensures { λ r. ⌜ r .0 ≡ getD order (self .0 - 1) 0 ⌝ }
     {
         let place = self.0 - 1;

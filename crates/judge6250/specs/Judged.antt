@@ -4,6 +4,7 @@ use Prim.Native.Nat.{ℕ, _^_}
 use mathlib.Core.Bool.{cond}
 use mathlib.Core.List.{List}
 use lib.Dec.{eqb}
+use Rattle.rectangular.specs.Constants.{tracks}
 use Rattle.rectangular.specs.Correction.{Judgement, corrected, manyPointed, noGroup, changedMap}
 use Rattle.group6250.specs.Packed.{valuesOf}
 use Rattle.judge6250.specs.declared.judge.Correction.{Correction}
@@ -26,7 +27,7 @@ toldChanged NoGroup = 0
 
 -- the tracks in which a group that was read differs from the one that fits
 unfoldable pub changedBy : List ℕ → Judgement → ℕ
-changedBy read (corrected right) = changedMap 9 read right
+changedBy read (corrected right) = changedMap tracks read right
 changedBy read manyPointed = 0
 changedBy read noGroup = 0
 

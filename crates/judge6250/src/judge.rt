@@ -6,15 +6,16 @@ use products::backward_power;
 use products::check_syndrome;
 use products::erasure_product;
 use products::forward_power;
+use rectangular::Code6250;
 ghost use mathlib.Core.Path.{_≡_};
 ghost use mathlib.Core.Logic.{_⊎_};
 ghost use mathlib.Core.List.{[], _∷_};
-ghost use Prim.Native.Nat.{_<_};
+ghost use Prim.Native.Nat.{_^_, _<_};
 ghost use lib.Dec.{eqb};
 ghost use lib.ListN.{getD};
 ghost use Rattle.indexed.specs.List.{firstBelow, tabulate, below};
 ghost use Rattle.register.specs.Xor.{_⊕_};
-ghost use Rattle.rectangular.specs.Constants.{feedback, exponent};
+ghost use Rattle.rectangular.specs.Constants.{feedback, exponent, tracks};
 ghost use Rattle.rectangular.specs.Correction.{pointedTracks, paritySyndrome, checkSyndrome, weighed, secondError, errorAt, oneTrack, twoTracks, judged};
 ghost use Rattle.judge6250.specs.Judged.{correctedValues, toldJudged, toldChanged, changedBy, markAt};
 ghost use Rattle.rectangular.specs.Correction.{changedMap};
@@ -35,7 +36,7 @@ pub enum Judged {
 
 // The bit of a track that an error changes.
 fn mark(track: usize, error: u8) -> u16
-    requires { ⌜ track < 9 ⌝ }
+    requires { ⌜ track < tracks ⌝ }
     ensures { λ r. ⌜ r ≡ markAt track error ⌝ }
 {
     if error == 0 { 0 } else { 1 << track }
@@ -44,15 +45,15 @@ fn mark(track: usize, error: u8) -> u16
 // The group with an error taken off each of two tracks, of which the second has none if it is not
 // behind the first.
 fn corrected(group: Group, first: usize, error: u8, second: usize, other: u8) -> Correction
-    requires { ⌜ (first < 9) × (second < 9) × ((first < second) ⊎ (other ≡ 0)) ⌝ }
-    ensures values { λ r. ⌜ correctedValues r ≡ tabulate 9 (λ k. getD (valuesOf group) k 0 ⊕ errorAt first error k ⊕ errorAt second other k) ⌝ }
-    ensures changed { λ r. ⌜ r .changed ≡ changedMap 9 (valuesOf group) (correctedValues r) ⌝ }
+    requires { ⌜ (first < tracks) × (second < tracks) × ((first < second) ⊎ (other ≡ 0)) ⌝ }
+    ensures values { λ r. ⌜ correctedValues r ≡ tabulate tracks (λ k. getD (valuesOf group) k 0 ⊕ errorAt first error k ⊕ errorAt second other k) ⌝ }
+    ensures changed { λ r. ⌜ r .changed ≡ changedMap tracks (valuesOf group) (correctedValues r) ⌝ }
 {
     let mut parity = group.parity;
-    if first == 8 {
+    if first == Code6250::PARITY_TRACK {
         parity = parity ^ error;
     }
-    if second == 8 {
+    if second == Code6250::PARITY_TRACK {
         parity = parity ^ other;
     }
     Correction {
@@ -64,69 +65,69 @@ fn corrected(group: Group, first: usize, error: u8, second: usize, other: u8) ->
 
 // What an error in a track leaves in S2 (equation (17)).
 fn weight(track: usize, error: u8) -> u8
-    requires { ⌜ track < 9 ⌝ }
+    requires { ⌜ track < tracks ⌝ }
     ensures { λ r. ⌜ r ≡ weighed 8 feedback track error ⌝ }
 {
-    if track < 8 {
+    if track < Code6250::PARITY_TRACK {
         forward_power(track, error)
     } else {
         0
     }
 }
 
-// The first track in which an error S1 accounts for S2 (equations (16) and (17)), or 9.
+// The first track in which an error S1 accounts for S2 (equations (16) and (17)), or 9, the number of tracks.
 fn located(s1: u8, s2: u8) -> usize
-    ensures { λ r. ⌜ r ≡ firstBelow 9 (λ k. eqb (weighed 8 feedback k s1) s2) ⌝ }
+    ensures { λ r. ⌜ r ≡ firstBelow tracks (λ k. eqb (weighed 8 feedback k s1) s2) ⌝ }
 {
     let mut track = 0;
-    while track < 9 {
+    while track < Code6250::TRACKS {
         if weight(track, s1) == s2 {
             return track;
         }
         track += 1;
     }
-    9
+    Code6250::TRACKS
 }
 
 // No track is pointed: one may be wrong. Most groups have no error, and that is seen first.
 fn unpointed(group: Group, s1: u8, s2: u8) -> Judged
     requires { ⌜ (s1 ≡ paritySyndrome 8 (λ k. getD (valuesOf group) k 0)) × (s2 ≡ checkSyndrome 8 feedback (λ k. getD (valuesOf group) k 0)) ⌝ }
-    ensures told { λ r. ⌜ toldJudged r ≡ oneTrack 8 feedback (λ k. getD (valuesOf group) k 0) (below 9) ⌝ }
+    ensures told { λ r. ⌜ toldJudged r ≡ oneTrack 8 feedback (λ k. getD (valuesOf group) k 0) (below tracks) ⌝ }
     ensures changed { λ r. ⌜ toldChanged r ≡ changedBy (valuesOf group) (toldJudged r) ⌝ }
 {
     if s1 == 0 {
         if s2 == 0 {
-            return Judged::Corrected(corrected(group, 0, s1, 8, 0));
+            return Judged::Corrected(corrected(group, 0, s1, Code6250::PARITY_TRACK, 0));
         }
     }
     let track = located(s1, s2);
-    if track < 9 {
-        return Judged::Corrected(corrected(group, track, s1, 8, 0));
+    if track < Code6250::TRACKS {
+        return Judged::Corrected(corrected(group, track, s1, Code6250::PARITY_TRACK, 0));
     }
     Judged::NoGroup
 }
 
 // One track is pointed: it alone may be wrong, and the check equation must hold then.
 fn pointed_once(group: Group, track: usize, s1: u8, s2: u8) -> Judged
-    requires { ⌜ (track < 9) × (s1 ≡ paritySyndrome 8 (λ k. getD (valuesOf group) k 0)) × (s2 ≡ checkSyndrome 8 feedback (λ k. getD (valuesOf group) k 0)) ⌝ }
+    requires { ⌜ (track < tracks) × (s1 ≡ paritySyndrome 8 (λ k. getD (valuesOf group) k 0)) × (s2 ≡ checkSyndrome 8 feedback (λ k. getD (valuesOf group) k 0)) ⌝ }
     ensures told { λ r. ⌜ toldJudged r ≡ oneTrack 8 feedback (λ k. getD (valuesOf group) k 0) (track ∷ []) ⌝ }
     ensures changed { λ r. ⌜ toldChanged r ≡ changedBy (valuesOf group) (toldJudged r) ⌝ }
 {
     let left = weight(track, s1);
     if left == s2 {
-        return Judged::Corrected(corrected(group, track, s1, 8, 0));
+        return Judged::Corrected(corrected(group, track, s1, Code6250::PARITY_TRACK, 0));
     }
     Judged::NoGroup
 }
 
 // The error in the second of two pointed tracks (equation (21)): for P the matrix is the identity.
 fn second_error(first: usize, second: usize, s1: u8, s2: u8) -> u8
-    requires { ⌜ (first < second) × (second < 9) ⌝ }
+    requires { ⌜ (first < second) × (second < tracks) ⌝ }
     ensures { λ r. ⌜ r ≡ secondError 8 feedback exponent first second s1 s2 ⌝ }
 {
     let both = s1 ^ backward_power(first, s2);
     let distance = second - first;
-    if second < 8 {
+    if second < Code6250::PARITY_TRACK {
         erasure_product(distance, both)
     } else {
         both
@@ -135,7 +136,7 @@ fn second_error(first: usize, second: usize, s1: u8, s2: u8) -> u8
 
 // Two tracks are pointed: one group always fits.
 fn pointed_twice(group: Group, first: usize, second: usize, s1: u8, s2: u8) -> Judged
-    requires { ⌜ (first < second) × (second < 9) × (s1 ≡ paritySyndrome 8 (λ k. getD (valuesOf group) k 0)) × (s2 ≡ checkSyndrome 8 feedback (λ k. getD (valuesOf group) k 0)) ⌝ }
+    requires { ⌜ (first < second) × (second < tracks) × (s1 ≡ paritySyndrome 8 (λ k. getD (valuesOf group) k 0)) × (s2 ≡ checkSyndrome 8 feedback (λ k. getD (valuesOf group) k 0)) ⌝ }
     ensures told { λ r. ⌜ toldJudged r ≡ twoTracks 8 feedback exponent (λ k. getD (valuesOf group) k 0) first second ⌝ }
     ensures changed { λ r. ⌜ toldChanged r ≡ changedBy (valuesOf group) (toldJudged r) ⌝ }
 {
@@ -145,8 +146,8 @@ fn pointed_twice(group: Group, first: usize, second: usize, s1: u8, s2: u8) -> J
 
 // Judges a group by the tracks that are pointed, bit i of the map for track i.
 pub fn judge(group: Group, pointers: u16) -> Judged
-    requires { ⌜ pointers < 512 ⌝ }
-    ensures told { λ r. ⌜ toldJudged r ≡ judged 8 feedback exponent (λ k. getD (valuesOf group) k 0) (pointedTracks 9 pointers) ⌝ }
+    requires { ⌜ pointers < 2 ^ tracks ⌝ }
+    ensures told { λ r. ⌜ toldJudged r ≡ judged 8 feedback exponent (λ k. getD (valuesOf group) k 0) (pointedTracks tracks pointers) ⌝ }
     ensures changed { λ r. ⌜ toldChanged r ≡ changedBy (valuesOf group) (toldJudged r) ⌝ }
 {
     let s1 = parity(group.tracks) ^ group.parity;

@@ -30,6 +30,9 @@ ghost use Rattle.terms.specs.Call as Call;
 ghost use Rattle.terms.specs.Reading.{at6250};
 ghost use Rattle.terms.specs.Terms.{Terms};
 
+// A record of so few groups is short.
+const SHORT: usize = 64;
+
 // What the groups of a record come to: how many words are changed, or why it is refused.
 enum Scan {
     Fits(usize),
@@ -57,7 +60,7 @@ fn correct_all(words: &[u16], maps: &[u16], backward: bool, table: &[u16], body:
     while g < maps.len() {
         match judge_at(words, g, maps, backward, table) {
             Judged::Corrected(right) => {
-                let at = g * 7;
+                let at = g * Code6250::BYTES;
                 unpack(&mut body[at..], right.tracks);
                 changes += count_changed(right.changed);
                 g = next_group(words, g);
@@ -110,7 +113,7 @@ fn read_within(
     ensures output { λ r. ⌜ now (output .exit) ≡ outputAfter (toldRead r) (readData backward (now (words .entry)) (now (maps .entry))) (now (output .entry)) ⌝ }
 {
     match correct_all(words, maps, backward, table, body) {
-        Scan::Fits(changes) => delivered(body, maps.len() * 7, changes, output),
+        Scan::Fits(changes) => delivered(body, maps.len() * Code6250::BYTES, changes, output),
         Scan::Unfit(refusal) => Read::Refused(refusal),
     }
 }
@@ -131,7 +134,7 @@ fn lengths_suit(words: usize, maps: usize) -> bool
     if maps > Code6250::MOST_GROUPS {
         return false;
     }
-    words == maps * 9
+    words == maps * Code6250::WORDS
 }
 
 // Reads a record, forward or backward, with the table of that direction. A short record takes a small
@@ -145,18 +148,18 @@ fn read(words: &[u16], maps: &[u16], backward: bool, table: &[u16], output: &mut
     if !lengths_suit(words.len(), groups) {
         return refused(Reason::Length, 0);
     }
-    if output.len() < groups * 7 - 1 {
+    if output.len() < groups * Code6250::BYTES - 1 {
         return refused(Reason::Space, 0);
     }
     let stray = first_stray(words, maps, backward);
     if stray < groups {
         return refused(Reason::StrayBits, stray);
     }
-    if groups <= 64 {
-        let mut short = [0u8; 448];
+    if groups <= SHORT {
+        let mut short = [0u8; SHORT * Code6250::BYTES];
         return read_within(words, maps, backward, table, &mut short, output);
     }
-    let mut body = [0u8; 4102];
+    let mut body = [0u8; Code6250::MOST_BODY];
     read_within(words, maps, backward, table, &mut body, output)
 }
 

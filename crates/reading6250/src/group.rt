@@ -5,6 +5,7 @@ use group6250::group::Group;
 use judge6250::judge::Correction;
 use judge6250::judge::Judged;
 use judge6250::judge::judge;
+use rectangular::Code6250;
 ghost use mathlib.Core.Bool.{true};
 ghost use mathlib.Core.Path.{_≡_};
 ghost use Prim.Native.Nat.{_<_};
@@ -28,7 +29,7 @@ pub(crate) fn judge_group(
     ensures changed { λ r. ⌜ (isCorrected (toldJudged r) ≡ true → toldChanged r ≡ changedTracks backward (now (words .entry)) (now (maps .entry)) g) ⌝ }
 {
     let place = lent_place(backward, maps.len(), g);
-    let received = receive(words, place * 9, backward, table);
+    let received = receive(words, place * Code6250::WORDS, backward, table);
     let group = Group {
         tracks: received.tracks,
         parity: received.parity,

@@ -1,10 +1,12 @@
 // A group as it is received: the values of its nine words, and which of them are illegal.
 use group6250::group::placed;
+use rectangular::Code6250;
 ghost use mathlib.Core.Path.{_≡_};
 ghost use Prim.Native.Nat.{ℕ, _+_, _<_, _≤_};
 ghost use lib.ListN.{length, getD};
 ghost use Rattle.indexed.specs.List.{tabulate};
 ghost use Rattle.group_code.specs.Word.{valueOf, forwardWord, readings};
+ghost use Rattle.rectangular.specs.Constants.{tracks, wordsPerGroup};
 ghost use Rattle.record6250.specs.Group.{illegalMap};
 ghost use Rattle.reading6250.specs.Received.{receivedValues};
 
@@ -17,12 +19,12 @@ pub(crate) struct Received {
 
 // The tracks with an illegal word among the nine from an index on.
 fn illegal_tracks(words: &[u16], at: usize, backward: bool, table: &[u16]) -> u16
-    requires { ⌜ (at + 9 ≤ length (now words)) × ((k : ℕ) → getD (now words) k 0 < 1024) × (now table ≡ readings backward) ⌝ }
-    ensures { λ r. ⌜ r ≡ illegalMap (tabulate 9 (λ k. forwardWord backward (getD (now (words .entry)) (at + k) 0))) ⌝ }
+    requires { ⌜ (at + wordsPerGroup ≤ length (now words)) × ((k : ℕ) → getD (now words) k 0 < 1024) × (now table ≡ readings backward) ⌝ }
+    ensures { λ r. ⌜ r ≡ illegalMap (tabulate tracks (λ k. forwardWord backward (getD (now (words .entry)) (at + k) 0))) ⌝ }
 {
     let mut illegal: u16 = 0;
     let mut k = 0;
-    while k < 9 {
+    while k < Code6250::WORDS {
         let word = words[at + k] as usize;
         illegal = illegal + ((table[word] / 256) << k);
         k += 1;
@@ -33,15 +35,15 @@ fn illegal_tracks(words: &[u16], at: usize, backward: bool, table: &[u16]) -> u1
 // Receives the nine words from an index on, each by one look-up. Illegal words are rare: all are looked
 // for at once.
 pub(crate) fn receive(words: &[u16], at: usize, backward: bool, table: &[u16]) -> Received
-    requires { ⌜ (at + 9 ≤ length (now words)) × ((k : ℕ) → getD (now words) k 0 < 1024) × (now table ≡ readings backward) ⌝ }
-    ensures values { λ r. ⌜ receivedValues r ≡ tabulate 9 (λ k. valueOf (forwardWord backward (getD (now (words .entry)) (at + k) 0))) ⌝ }
-    ensures illegal { λ r. ⌜ r .illegal ≡ illegalMap (tabulate 9 (λ k. forwardWord backward (getD (now (words .entry)) (at + k) 0))) ⌝ }
+    requires { ⌜ (at + wordsPerGroup ≤ length (now words)) × ((k : ℕ) → getD (now words) k 0 < 1024) × (now table ≡ readings backward) ⌝ }
+    ensures values { λ r. ⌜ receivedValues r ≡ tabulate tracks (λ k. valueOf (forwardWord backward (getD (now (words .entry)) (at + k) 0))) ⌝ }
+    ensures illegal { λ r. ⌜ r .illegal ≡ illegalMap (tabulate tracks (λ k. forwardWord backward (getD (now (words .entry)) (at + k) 0))) ⌝ }
 {
     let mut tracks: u64 = 0;
     let mut parity: u8 = 0;
     let mut seen: u16 = 0;
     let mut k = 0;
-    while k < 9 {
+    while k < Code6250::WORDS {
         let word = words[at + k] as usize;
         let read = table[word];
         parity = (read % 256) as u8;

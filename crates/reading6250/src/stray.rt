@@ -1,25 +1,27 @@
 // Stray bits: words of more than ten bits, maps of more than nine.
+use rectangular::Code6250;
 use register::union;
 ghost use mathlib.Core.Path.{_≡_};
 ghost use Prim.Native.Nat.{_+_, _*_, _<_, _≤_};
 ghost use lib.ListN.{length};
 ghost use Rattle.indexed.specs.List.{turnedPlace};
+ghost use Rattle.rectangular.specs.Constants.{wordsPerGroup};
 ghost use Rattle.record6250.specs.Read.{firstStray};
 ghost use Rattle.reading6250.specs.Stray.{strayAt};
 
 // Whether one of nine words from an index on, or the map, has a stray bit.
 fn is_stray(words: &[u16], at: usize, map: u16) -> bool
-    requires { ⌜ at + 9 ≤ length (now words) ⌝ }
+    requires { ⌜ at + wordsPerGroup ≤ length (now words) ⌝ }
     ensures { λ r. ⌜ r ≡ strayAt (now (words .entry)) at map ⌝ }
 {
     let mut k = 0;
-    while k < 9 {
-        if words[at + k] > 1023 {
+    while k < Code6250::WORDS {
+        if words[at + k] > Code6250::MOST_WORD {
             return true;
         }
         k += 1;
     }
-    map > 511
+    map > Code6250::MOST_MAP
 }
 
 // The place of group g of a reading among the lent ones, of which a backward reading has the last first.
@@ -33,19 +35,19 @@ pub(crate) fn lent_place(backward: bool, groups: usize, g: usize) -> usize
 // The first group with a stray bit, or the number of groups. Where no bit is stray, as a rule, that is
 // seen from all words at once.
 pub fn first_stray(words: &[u16], maps: &[u16], backward: bool) -> usize
-    requires { ⌜ length (now words) ≡ 9 * length (now maps) ⌝ }
+    requires { ⌜ length (now words) ≡ wordsPerGroup * length (now maps) ⌝ }
     ensures { λ r. ⌜ r ≡ firstStray backward (now (words .entry)) (now (maps .entry)) ⌝ }
 {
     let groups = maps.len();
-    if union(words) < 1024 {
-        if union(maps) < 512 {
+    if union(words) <= Code6250::MOST_WORD {
+        if union(maps) <= Code6250::MOST_MAP {
             return groups;
         }
     }
     let mut g = 0;
     while g < groups {
         let place = lent_place(backward, groups, g);
-        if is_stray(words, place * 9, maps[place]) {
+        if is_stray(words, place * Code6250::WORDS, maps[place]) {
             return g;
         }
         g += 1;

@@ -8,9 +8,10 @@ ghost use Prim.Native.Nat.{_+_, _<_};
 ghost use lib.ListN.{length};
 ghost use Rattle.group_code.specs.Word.{readings};
 ghost use Rattle.judge6250.specs.Judged.{toldJudged, toldChanged};
+ghost use Rattle.rectangular.specs.Constants.{mostGroups};
 ghost use Rattle.record6250.specs.Fits.{Passes};
 ghost use Rattle.record6250.specs.Group.{isCorrected};
-ghost use Rattle.record6250.specs.Read.{judgement, changedTracks, mostGroups};
+ghost use Rattle.record6250.specs.Read.{judgement, changedTracks};
 
 // The lent words, and the group at which the walk is.
 pub(crate) struct GroupWalker<'a> {

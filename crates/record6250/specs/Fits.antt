@@ -7,11 +7,12 @@ use mathlib.Core.Path.{_≡_}
 use Prim.Native.Nat.{ℕ, _*_, _<_, _≤_}
 use lib.ListN.{length, getD}
 use Rattle.indexed.specs.Differ.{differences}
+use Rattle.rectangular.specs.Constants.{tracks, mostData}
 use Rattle.rectangular.specs.Correction.{Allowed}
 use Rattle.record6250.specs.Group.{pointed}
 use Rattle.record6250.specs.Picture.{groupRead, pictureWords}
 use Rattle.record6250.specs.Read.{readGroup, readMap, lengthsSuit, firstStray}
-use Rattle.record6250.specs.Record.{mostData, groupsFor, writtenRecord}
+use Rattle.record6250.specs.Record.{groupsFor, writtenRecord}
 
 -- data within the limits
 pub record IsData (bytes : List ℕ) : Type 0 where
@@ -28,7 +29,7 @@ module _ (backward : Bool) (words maps : List ℕ) where
   -- track at most", where a track differs if its word does
   unfoldable pub FitsGroup : ℕ → List ℕ → Type 0
   FitsGroup g right =
-      Allowed 9 (pointed (readGroup backward words maps g) (readMap backward words maps g)) (λ k. getD (readGroup backward words maps g) k 0)
+      Allowed tracks (pointed (readGroup backward words maps g) (readMap backward words maps g)) (λ k. getD (readGroup backward words maps g) k 0)
       (λ k. getD right k 0)
 
   -- the written record of these data fits: "the same number of groups", each of which fits
@@ -40,4 +41,4 @@ module _ (backward : Bool) (words maps : List ℕ) where
   -- in how many words the reading's forward picture differs from the written record
   unfoldable pub wordsChanged : List ℕ → ℕ
   wordsChanged bytes =
-      differences (9 * length maps) (λ k. getD (pictureWords backward (length maps) words) k 0) (λ k. getD (writtenRecord bytes) k 0)
+      differences (tracks * length maps) (λ k. getD (pictureWords backward (length maps) words) k 0) (λ k. getD (writtenRecord bytes) k 0)

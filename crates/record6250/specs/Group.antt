@@ -12,17 +12,17 @@ use Rattle.answer.specs.declared.Reason.{Reason}
 use Rattle.answer.specs.declared.Reason.the-variants.{ManyPointed, NoGroup}
 use Rattle.group_code.specs.Code.{wordOf}
 use Rattle.group_code.specs.Word.{valueOf, illegality}
-use Rattle.rectangular.specs.Constants.{feedback, exponent}
+use Rattle.rectangular.specs.Constants.{feedback, exponent, tracks, wordsPerGroup, mostWord, mostMap}
 use Rattle.rectangular.specs.Correction.{pointedTracks, Judgement, corrected, manyPointed, noGroup, judged}
 use Rattle.rectangular.specs.Group.{informationOf}
 
 -- a bit beyond its width: in a word of ten bits, or in a map of nine
 unfoldable pub stray : List ℕ → ℕ → Bool
-stray words pointers = ltb (firstBelow 9 (λ k. ltb 1023 (getD words k 0))) 9 || ltb 511 pointers
+stray words pointers = ltb (firstBelow wordsPerGroup (λ k. ltb mostWord (getD words k 0))) wordsPerGroup || ltb mostMap pointers
 
 -- the tracks whose words are illegal, as a map
 unfoldable pub illegalMap : List ℕ → ℕ
-illegalMap words = ofBits (tabulate 9 (λ k. illegality (getD words k 0)))
+illegalMap words = ofBits (tabulate tracks (λ k. illegality (getD words k 0)))
 
 -- "A track is pointed by the drive or by an illegal code on it."
 unfoldable pub pointed : List ℕ → ℕ → ℕ
@@ -31,7 +31,7 @@ pointed words pointers = bitOr pointers (illegalMap words)
 -- the judgement: the values of the group that fits, or why none does
 unfoldable pub judgedGroup : List ℕ → ℕ → Judgement
 judgedGroup words pointers =
-    judged 8 feedback exponent (λ k. valueOf (getD words k 0)) (pointedTracks 9 (pointed words pointers))
+    judged 8 feedback exponent (λ k. valueOf (getD words k 0)) (pointedTracks tracks (pointed words pointers))
 
 unfoldable pub isCorrected : Judgement → Bool
 isCorrected (corrected values) = true

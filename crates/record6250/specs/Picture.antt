@@ -7,11 +7,12 @@ use mathlib.Core.List.{List, _++_}
 use lib.ListN.{length, getD, drop}
 use Rattle.indexed.specs.List.{tabulate, blocks, turnedPlace}
 use Rattle.group_code.specs.Word.{forwardWord}
+use Rattle.rectangular.specs.Constants.{tracks, wordsPerGroup}
 
 -- the words of group g
 unfoldable pub groupRead : Bool → ℕ → List ℕ → ℕ → List ℕ
 groupRead backward groups words g =
-    tabulate 9 (λ k. forwardWord backward (getD words (9 * turnedPlace backward groups g + k) 0))
+    tabulate tracks (λ k. forwardWord backward (getD words (wordsPerGroup * turnedPlace backward groups g + k) 0))
 
 -- the drive's pointer map for group g
 unfoldable pub mapRead : Bool → ℕ → List ℕ → ℕ → ℕ

@@ -10,25 +10,21 @@ use Rattle.indexed.specs.List.{blocks, firstBelow, total}
 use Rattle.indexed.specs.Test.{allBelow}
 use Rattle.answer.specs.Answer.{Answer, delivered, refusedFor}
 use Rattle.answer.specs.declared.Reason.the-variants.{Length, Space, StrayBits, Padding}
-use Rattle.rectangular.specs.Correction.{Judgement}
-use Rattle.rectangular.specs.Correction.{changedMap}
+use Rattle.rectangular.specs.Constants.{tracks, wordsPerGroup, bytesPerGroup, mostPadding, mostGroups}
+use Rattle.rectangular.specs.Correction.{Judgement, changedMap}
 use Rattle.record6250.specs.Group.{stray, judgedGroup, isCorrected, reasonOf, rightBytes, rightWords}
 use Rattle.record6250.specs.Picture.{groupRead, mapRead}
 
--- a record has 1 to 586 groups
-abbrev pub mostGroups : ℕ
-mostGroups = 586
-
--- nine words and one map for each group
+-- 1 to 586 groups, with nine words and one map for each
 unfoldable pub lengthsSuit : ℕ → ℕ → Bool
-lengthsSuit words maps = (ltb 0 maps && leb maps mostGroups) && eqb words (9 * maps)
+lengthsSuit words maps = (ltb 0 maps && leb maps mostGroups) && eqb words (wordsPerGroup * maps)
 
 -- the padding rule, of the corrected bytes: the last is not above 6, and as many bytes before it as it says are zero
 unfoldable pub lastByte : List ℕ → ℕ
 lastByte bytes = getD bytes (length bytes - 1) 0
 
 unfoldable pub paddingSuits : List ℕ → Bool
-paddingSuits bytes = leb (lastByte bytes) 6 && allBelow (lastByte bytes) (λ k. eqb (getD bytes (length bytes - 2 - k) 0) 0)
+paddingSuits bytes = leb (lastByte bytes) mostPadding && allBelow (lastByte bytes) (λ k. eqb (getD bytes (length bytes - 2 - k) 0) 0)
 
 -- what stands before the padding
 unfoldable pub unpadded : List ℕ → List ℕ
@@ -46,7 +42,7 @@ module _ (backward : Bool) (words maps : List ℕ) where
   judgement g = judgedGroup (readGroup g) (readMap g)
 
   unfoldable pub changedTracks : ℕ → ℕ
-  changedTracks g = changedMap 9 (readGroup g) (rightWords (judgement g))
+  changedTracks g = changedMap tracks (readGroup g) (rightWords (judgement g))
 
   -- the first group with a stray bit, and the first that no group of the code fits; or the number of groups
   unfoldable pub firstStray : ℕ
@@ -75,7 +71,7 @@ module _ (backward : Bool) (words maps : List ℕ) where
   unfoldable pub readAnswer : ℕ → Answer
   readAnswer space =
       cond (lengthsSuit (length words) (length maps))
-      (cond (leb (7 * length maps - 1) space)
+      (cond (leb (bytesPerGroup * length maps - 1) space)
       (cond (ltb firstStray (length maps)) (refusedFor StrayBits firstStray) judgedAnswer)
       (refusedFor Space 0))
       (refusedFor Length 0)

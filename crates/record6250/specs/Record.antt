@@ -5,16 +5,13 @@ use mathlib.Core.List.{List, [], _∷_, _++_, map}
 use lib.ListN.{length, take, drop, replicate}
 use Rattle.indexed.specs.List.{blocks}
 use Rattle.group_code.specs.Code.{wordOf}
-use Rattle.rectangular.specs.Constants.{feedback}
+use Rattle.rectangular.specs.Constants.{feedback, bytesPerGroup, mostPadding}
+pub use Rattle.rectangular.specs.Constants.{mostData}
 use Rattle.rectangular.specs.Group.{group}
-
--- the data are 0 to 4,101 bytes
-abbrev pub mostData : ℕ
-mostData = 4101
 
 -- p, from 0 to 6: how many zero bytes stand behind so many bytes of data
 unfoldable pub padding : ℕ → ℕ
-padding n = 6 - n % 7
+padding n = mostPadding - n % bytesPerGroup
 
 -- the data, p zero bytes, and one byte holding p: a multiple of 7
 unfoldable pub body : List ℕ → List ℕ
@@ -22,11 +19,11 @@ body bytes = bytes ++ replicate (padding (length bytes)) 0 ++ (padding (length b
 
 -- the number of groups for so many bytes of data
 unfoldable pub groupsFor : ℕ → ℕ
-groupsFor n = n / 7 + 1
+groupsFor n = n / bytesPerGroup + 1
 
 -- group g is cut from the body in order, its first byte being B7
 unfoldable pub groupBytes : ℕ → List ℕ → List ℕ
-groupBytes g bytes = take 7 (drop (7 * g) bytes)
+groupBytes g bytes = take bytesPerGroup (drop (bytesPerGroup * g) bytes)
 
 -- the nine words of a group, tracks 0 to 8
 unfoldable pub groupWords : List ℕ → List ℕ

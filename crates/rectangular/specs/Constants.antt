@@ -1,4 +1,5 @@
--- The constants of the 6250 code (document 000, "Implementation of ORC"; document 01, "The 6250 group").
+-- The constants of the 6250 code: polynomial, exponent, limits (document 000, "Implementation of ORC"; document 01, "The 6250
+-- group" and "The 6250 record").
 -- Assumes nothing.
 use Prim.Native.Nat.{ℕ}
 use Rattle.register.specs.Shift.{shift, shifts}
@@ -7,8 +8,36 @@ use Rattle.register.specs.Shift.{shift, shifts}
 abbrev pub feedback : ℕ
 feedback = 57
 
+-- the first positive power of T that is the identity
 abbrev pub exponent : ℕ
 exponent = 17
+
+-- a group has nine tracks, is lent as nine words, and has seven information bytes
+abbrev pub tracks : ℕ
+tracks = 9
+
+abbrev pub wordsPerGroup : ℕ
+wordsPerGroup = 9
+
+abbrev pub bytesPerGroup : ℕ
+bytesPerGroup = 7
+
+-- a word has ten bits, and a pointer map nine
+abbrev pub mostWord : ℕ
+mostWord = 1023
+
+abbrev pub mostMap : ℕ
+mostMap = 511
+
+-- the data are 0 to 4,101 bytes, behind which stand 0 to 6 zero bytes, and a record has 1 to 586 groups
+abbrev pub mostData : ℕ
+mostData = 4101
+
+abbrev pub mostPadding : ℕ
+mostPadding = 6
+
+abbrev pub mostGroups : ℕ
+mostGroups = 586
 
 -- T times a byte, and a power of T times a byte (equations (1) and (6))
 unfoldable pub timesT : ℕ → ℕ

@@ -4,6 +4,7 @@ use Prim.Native.Nat.{ℕ, _*_}
 use mathlib.Core.List.{List, [], _∷_, _++_}
 use lib.ListN.{drop}
 use Rattle.answer.specs.Answer.{Answer, delivered, toldRefusal}
+use Rattle.rectangular.specs.Constants.{wordsPerGroup}
 use Rattle.record6250.specs.Record.{firstGroups}
 use Rattle.writer6250.specs.declared.Written.{Written}
 use Rattle.writer6250.specs.declared.Written.the-variants.{Delivered, Refused}
@@ -15,4 +16,4 @@ toldWritten (Refused r) = toldRefusal r
 
 -- the output once the first groups are stored
 unfoldable pub groupsStored : ℕ → List ℕ → List ℕ → List ℕ
-groupsStored n bytes output = firstGroups n bytes ++ drop (9 * n) output
+groupsStored n bytes output = firstGroups n bytes ++ drop (wordsPerGroup * n) output

@@ -1,20 +1,22 @@
 // How a group lies among the words of a record: nine words, tracks 0 to 8.
 use group_code::word;
 use group6250::group::Group;
+use rectangular::Code6250;
 ghost use mathlib.Core.Path.{_≡_};
 ghost use mathlib.Core.List.{_++_, map};
 ghost use Prim.Native.Nat.{_≤_};
 ghost use lib.ListN.{length, drop};
 ghost use Rattle.group_code.specs.Code.{wordOf};
+ghost use Rattle.rectangular.specs.Constants.{wordsPerGroup};
 ghost use Rattle.group6250.specs.Packed.{valuesOf};
 
 // Stores a group's nine words at the front.
 pub(crate) fn store(words: &mut [u16], group: Group)
-    requires { ⌜ 9 ≤ length (now words) ⌝ }
-    ensures { λ _. ⌜ now (words .exit) ≡ map wordOf (valuesOf group) ++ drop 9 (now (words .entry)) ⌝ }
+    requires { ⌜ wordsPerGroup ≤ length (now words) ⌝ }
+    ensures { λ _. ⌜ now (words .exit) ≡ map wordOf (valuesOf group) ++ drop wordsPerGroup (now (words .entry)) ⌝ }
 {
     let mut j = 0;
-    while j < 9 {
+    while j < Code6250::WORDS {
         words[j] = word(group.value(j));
         j += 1;
     }

@@ -9,6 +9,7 @@ ghost use mathlib.Core.Path.{_≡_};
 ghost use Prim.Native.Nat.{_*_, _/_, _≤_};
 ghost use lib.ListN.{length};
 ghost use Rattle.answer.specs.Answer.{outputAfter};
+ghost use Rattle.rectangular.specs.Constants.{wordsPerGroup, bytesPerGroup};
 ghost use Rattle.record6250.specs.Record.{body, groupBytes, writtenRecord};
 ghost use Rattle.record6250.specs.Written.{writeAnswer};
 ghost use Rattle.writer6250.specs.Written.{toldWritten, groupsStored};
@@ -16,33 +17,36 @@ ghost use Rattle.terms.specs.Call as Call;
 ghost use Rattle.terms.specs.Reading.{bpi6250};
 ghost use Rattle.terms.specs.Terms.{Terms};
 
+// The place of a group's last byte.
+const LAST: usize = Code6250::BYTES - 1;
+
 // The bytes of the last group: the data that are left, the zero bytes, and the byte that counts them.
-fn last_group(bytes: &[u8]) -> [u8; 7]
-    ensures { λ r. ⌜ r ≡ groupBytes (length (now (bytes .entry)) / 7) (body (now (bytes .entry))) ⌝ }
+fn last_group(bytes: &[u8]) -> [u8; Code6250::BYTES]
+    ensures { λ r. ⌜ r ≡ groupBytes (length (now (bytes .entry)) / bytesPerGroup) (body (now (bytes .entry))) ⌝ }
 {
-    let mut last = [0u8; 7];
-    let left = bytes.len() % 7;
+    let mut last = [0u8; Code6250::BYTES];
+    let left = bytes.len() % Code6250::BYTES;
     let start = bytes.len() - left;
     let mut k = 0;
     while k < left {
         last[k] = bytes[start + k];
         k += 1;
     }
-    last[6] = (6 - left) as u8;
+    last[LAST] = (Code6250::MOST_PADDING - left) as u8;
     last
 }
 
 // Writes the groups that are full of data. Both calls of it share one compiled loop, so that
 // each table is compiled in at one place (decision D11).
 fn write_groups(bytes: &[u8], words: &mut [u16])
-    requires { ⌜ 9 * (length (now bytes) / 7) ≤ length (now words) ⌝ }
-    ensures { λ _. ⌜ now (words .exit) ≡ groupsStored (length (now (bytes .entry)) / 7) (now (bytes .entry)) (now (words .entry)) ⌝ }
+    requires { ⌜ wordsPerGroup * (length (now bytes) / bytesPerGroup) ≤ length (now words) ⌝ }
+    ensures { λ _. ⌜ now (words .exit) ≡ groupsStored (length (now (bytes .entry)) / bytesPerGroup) (now (bytes .entry)) (now (words .entry)) ⌝ }
 {
-    let full = bytes.len() / 7;
+    let full = bytes.len() / Code6250::BYTES;
     let mut g = 0;
     while g < full {
-        let from = g * 7;
-        let to = g * 9;
+        let from = g * Code6250::BYTES;
+        let to = g * Code6250::WORDS;
         store(&mut words[to..], written(&bytes[from..]));
         g += 1;
     }
@@ -60,8 +64,8 @@ pub fn write(bytes: &[u8], words: &mut [u16]) -> Written
             place: 0,
         });
     }
-    let full = bytes.len() / 7;
-    if words.len() < (full + 1) * 9 {
+    let full = bytes.len() / Code6250::BYTES;
+    if words.len() < (full + 1) * Code6250::WORDS {
         return Written::Refused(Refusal {
             reason: Reason::Space,
             place: 0,
@@ -69,7 +73,7 @@ pub fn write(bytes: &[u8], words: &mut [u16]) -> Written
     }
     write_groups(bytes, words);
     let last = last_group(bytes);
-    let to = full * 9;
+    let to = full * Code6250::WORDS;
     write_groups(&last, &mut words[to..]);
     Written::Delivered(full + 1)
 }

@@ -32,8 +32,8 @@ returns : tie.Need-returns Inv-loop μ-loop
 returns c =
     let args = c .before .before .before .before .before .before .args in
     sym (none-stray (args .backward) (now (args .words)) (now (args .maps)) (c .before .before .before .before .before .before .pre)
-    (rw (← (c .before .before .before .union .ensures)) (c .before .before .if1 .taken))
-    (rw (← (c .before .union2 .ensures)) (c .if2 .taken)))
+    (rw (← (c .before .before .before .union .ensures)) (omega (arith, c .before .before .if1 .taken)))
+    (rw (← (c .before .union2 .ensures)) (omega (arith, c .if2 .taken))))
 
 loop-holds : tie.Need-loop-holds Inv-loop μ-loop
 loop-holds c = (search needs, λ j h. absurd (not-suc-le-zero h))

@@ -29,7 +29,7 @@ use denote.Triple.Entry.{onEntry}
 use denote.Triple.Statement.{Contract}
 use denote.Triple.Walked.{needs}
 use Rattle.indexed.proofs.Walk.{WalkSpent, ends, shown, freed, meets-spent}
-use Rattle.record6250.specs.Read.{mostGroups}
+use Rattle.rectangular.specs.Constants.{mostGroups}
 use Rattle.reading6250.specs.declared.walker.GroupWalker.{GroupWalker}
 use Rattle.reading6250.proofs.WalkerSteps.{Row, in-signature, val, walker, walker-typed, walker-tells}
 use Rattle.reading6250.proofs.walker.GroupWalker.{the-type}

@@ -31,7 +31,7 @@ use denote.Triple.Statement.{Contract, Triple}
 use denote.Triple.Table.{cited}
 use denote.Triple.Walked.{needs}
 use Rattle.indexed.proofs.Walk.{Callee, called-as, WalkSpent, ends, shown, freed, framed, meets-spent}
-use Rattle.record6250.specs.Read.{mostGroups}
+use Rattle.rectangular.specs.Constants.{mostGroups}
 use Rattle.reading6250.proofs.WalkerSteps.{Words, AtGroup, val, walker, words-typed, walker-typed, made, walker-tells}
 use Rattle.reading6250.proofs.walker.GroupWalker.Laws.{lowered}
 use Rattle.reading6250.proofs.walker.at_group.Symbol.{name as #at-group, routine as at-group-routine}
