@@ -75,16 +75,22 @@ fn weight(track: usize, error: u8) -> u8
     }
 }
 
-// The first track in which an error S1 accounts for S2 (equations (16) and (17)), or 9, the number of tracks.
+// The first track in which an error S1 accounts for S2 (equations (16) and (17)), or 9, the number of tracks. The
+// register holds T^k S1 for track k, one shift a track; in P the error leaves nothing in S2.
 fn located(s1: u8, s2: u8) -> usize
     ensures { λ r. ⌜ r ≡ firstBelow tracks (λ k. eqb (weighed 8 feedback k s1) s2) ⌝ }
 {
+    let mut code = Code6250 { register: s1 };
     let mut track = 0;
-    while track < Code6250::TRACKS {
-        if weight(track, s1) == s2 {
+    while track < Code6250::PARITY_TRACK {
+        if code.register == s2 {
             return track;
         }
+        code = code.shifted();
         track += 1;
+    }
+    if s2 == 0 {
+        return Code6250::PARITY_TRACK;
     }
     Code6250::TRACKS
 }
