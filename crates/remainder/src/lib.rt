@@ -1,22 +1,37 @@
 // Remainders modulo g = 1 + X^3 + X^4 + X^5 + X^8, the polynomial of the 6250 code (document 000, "Implementation
 // of ORC"): what the bits leave that a power of T moves out of a byte. The powers of a group's eight tracks move
 // seven bits at most. A `match` on a number is a table in read-only memory, where a constant array would be
-// built at each use. No caller has more bits than its table: for other bytes the matrix itself is multiplied.
-use register::multiplied;
+// built at each use. No caller has more bits than its table: for other bytes the code's register is shifted.
+use rectangular::Code6250;
 ghost use mathlib.Core.Path.{_≡_};
 ghost use Prim.Native.Nat.{_<_};
 ghost use Rattle.indexed.specs.Rule.{valueAt};
 ghost use Rattle.register.specs.Matrix.{product};
 ghost use Rattle.remainder.specs.Power.{eighthPower, twelfthPower, seventhInverse};
 
-// The columns of T^8.
-const EIGHTH_POWER: [u64; 8] = [57, 114, 228, 241, 219, 143, 39, 78];
+// T^8 times a byte.
+fn eighth_power(byte: u8) -> u64
+    ensures { λ r. ⌜ r ≡ valueAt (product eighthPower) byte ⌝ }
+{
+    Code6250 { register: byte }.powered(8).register as u64
+}
 
-// The columns of T^12.
-const TWELFTH_POWER: [u64; 8] = [219, 143, 39, 78, 156, 1, 2, 4];
+// T^12 times a byte.
+fn twelfth_power(byte: u8) -> u64
+    ensures { λ r. ⌜ r ≡ valueAt (product twelfthPower) byte ⌝ }
+{
+    Code6250 { register: byte }.powered(12).register as u64
+}
 
-// The columns of T^-7.
-const SEVENTH_INVERSE: [u64; 8] = [228, 241, 219, 143, 39, 78, 156, 1];
+// T^-7 is the power that makes up the exponent.
+const SEVENTH_BACK: usize = Code6250::EXPONENT - 7;
+
+// T^-7 times a byte.
+fn seventh_inverse(byte: u8) -> u64
+    ensures { λ r. ⌜ r ≡ valueAt (product seventhInverse) byte ⌝ }
+{
+    Code6250 { register: byte }.powered(SEVENTH_BACK).register as u64
+}
 
 // T^8 times four bits.
 fn low_reduced(low: u8) -> u64
@@ -39,7 +54,7 @@ fn low_reduced(low: u8) -> u64
         13 => 44,
         14 => 103,
         15 => 94,
-        _ => multiplied(EIGHTH_POWER, low),
+        _ => eighth_power(low),
     }
 }
 
@@ -56,7 +71,7 @@ fn high_reduced(high: u8) -> u64
         5 => 252,
         6 => 168,
         7 => 115,
-        _ => multiplied(TWELFTH_POWER, high),
+        _ => twelfth_power(high),
     }
 }
 
@@ -202,6 +217,6 @@ pub fn restored(low: u8) -> u64
         125 => 69,
         126 => 80,
         127 => 180,
-        _ => multiplied(SEVENTH_INVERSE, low),
+        _ => seventh_inverse(low),
     }
 }
