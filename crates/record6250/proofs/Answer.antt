@@ -12,10 +12,11 @@ use Rattle.indexed.proofs.Below.{first-below-le}
 use Rattle.answer.specs.Answer.{Answer, delivered, refusedFor}
 use Rattle.answer.specs.declared.Reason.the-variants.{Length, Space, StrayBits}
 use Rattle.answer.proofs.Passed.{test-held, test-failed}
+use Rattle.rectangular.specs.Constants.{mostData}
 use Rattle.record6250.specs.Fits.{Passes}
 use Rattle.record6250.specs.Group.{stray}
 use Rattle.record6250.specs.Read.{lengthsSuit, readGroup, readMap, firstStray, judgedAnswer, readAnswer}
-use Rattle.record6250.specs.Record.{mostData, groupsFor}
+use Rattle.record6250.specs.Record.{groupsFor}
 use Rattle.record6250.specs.Written.{writeAnswer}
 
 module _ (backward : Bool) (words maps : List ℕ) where

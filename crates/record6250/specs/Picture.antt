@@ -27,4 +27,4 @@ pictureMaps backward maps = tabulate (length maps) (mapRead backward (length map
 
 -- words as they pass the head the other way. Where they are not nine a group, which is refused, what is left over stays behind.
 unfoldable pub turnedWords : List ℕ → List ℕ
-turnedWords words = pictureWords true (length words / 9) words ++ drop (9 * (length words / 9)) words
+turnedWords words = pictureWords true (length words / wordsPerGroup) words ++ drop (wordsPerGroup * (length words / wordsPerGroup)) words

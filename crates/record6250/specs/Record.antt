@@ -6,7 +6,6 @@ use lib.ListN.{length, take, drop, replicate}
 use Rattle.indexed.specs.List.{blocks}
 use Rattle.group_code.specs.Code.{wordOf}
 use Rattle.rectangular.specs.Constants.{feedback, bytesPerGroup, mostPadding}
-pub use Rattle.rectangular.specs.Constants.{mostData}
 use Rattle.rectangular.specs.Group.{group}
 
 -- p, from 0 to 6: how many zero bytes stand behind so many bytes of data

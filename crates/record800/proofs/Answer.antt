@@ -13,9 +13,9 @@ use Rattle.indexed.proofs.Tabulate.{length-tabulate}
 use Rattle.answer.specs.Answer.{Answer, delivered, refused, refusedFor, firstAbove}
 use Rattle.answer.specs.declared.Reason.the-variants.{StrayBits}
 use Rattle.answer.proofs.Passed.{test-held, test-failed}
+use Rattle.cyclic.specs.Constants.{mostData}
 use Rattle.record800.specs.Fits.{Passes}
 use Rattle.record800.specs.Read.{picture, judgedAnswer, judgedData, lengthSuits, firstStray, readAnswer}
-use Rattle.record800.specs.Record.{mostData}
 use Rattle.record800.specs.Written.{writeAnswer}
 use Rattle.record800.proofs.Picture.{length-picture}
 

@@ -22,8 +22,9 @@ use Rattle.record6250.specs.Written as sixWritten
 use Rattle.record800.proofs.Answer as eightAnswer
 use Rattle.record800.proofs.Recorded as eightRecord
 use Rattle.record800.specs.Read as eight
-use Rattle.record800.specs.Record as eightSpecs
 use Rattle.record800.specs.Written as eightWritten
+use Rattle.rectangular.specs.Constants as sixConstants
+use Rattle.cyclic.specs.Constants as eightConstants
 use Rattle.track_order.proofs.Order.{length-arranged}
 use Rattle.track_order.specs.Moved.{wordsAnswer, mapAnswer}
 use Rattle.track_order.specs.Order.{order, inverse, toPhysical, toAlgebraic}
@@ -93,9 +94,9 @@ listed-map moved m = listed-choice 0 (leb m 511) _ _ (λ t. listed-delivery 0 _)
 listed-answer : (call : Call) (space : ℕ) → Listed (places call) (answerTo call space)
 unfolding answerTo places sixWritten.writeAnswer eightWritten.writeAnswer
 listed-answer (write bpi6250 bytes) space =
-    first-rows 0 (leb (length bytes) sixSpecs.mostData) (leb (9 * sixSpecs.groupsFor (length bytes)) space) _ (λ s. listed-delivery 0 _)
+    first-rows 0 (leb (length bytes) sixConstants.mostData) (leb (9 * sixSpecs.groupsFor (length bytes)) space) _ (λ s. listed-delivery 0 _)
 listed-answer (write bpi800 bytes) space =
-    first-rows 0 (leb 1 (length bytes) && leb (length bytes) eightSpecs.mostData) (leb (length bytes + 2) space) _ (λ s. listed-delivery 0 _)
+    first-rows 0 (leb 1 (length bytes) && leb (length bytes) eightConstants.mostData) (leb (length bytes + 2) space) _ (λ s. listed-delivery 0 _)
 listed-answer (read r) space = listed-read r space
 listed-answer (wordsToPhysical source) space = listed-words source space
 listed-answer (wordsToAlgebraic source) space = listed-words source space

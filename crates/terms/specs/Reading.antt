@@ -7,6 +7,8 @@ use mathlib.Core.Path.{_≡_}
 use Prim.Native.Nat.{ℕ, _-_, _*_, _/_, _≤_}
 use lib.ListN.{length, getD, replicate}
 use Rattle.answer.specs.Answer.{Answer}
+use Rattle.rectangular.specs.Constants.{wordsPerGroup, bytesPerGroup}
+use Rattle.cyclic.specs.Constants.{checks}
 use Rattle.record6250.specs.Fits as six
 use Rattle.record6250.specs.Picture as sixPicture
 use Rattle.record6250.specs.Read as sixRead
@@ -57,8 +59,8 @@ turned (at800 backward characters) = at800 (not backward) (eightRead.picture tru
 
 -- words or characters read undamaged, with no track pointed: forward, or turned, backward
 unfoldable pub undamaged : Density → Bool → List ℕ → Reading
-undamaged bpi6250 false words = at6250 false words (replicate (length words / 9) 0)
-undamaged bpi6250 true words = turned (at6250 false words (replicate (length words / 9) 0))
+undamaged bpi6250 false words = at6250 false words (replicate (length words / wordsPerGroup) 0)
+undamaged bpi6250 true words = turned (at6250 false words (replicate (length words / wordsPerGroup) 0))
 undamaged bpi800 false characters = at800 false characters
 undamaged bpi800 true characters = turned (at800 false characters)
 
@@ -66,8 +68,8 @@ undamaged bpi800 true characters = turned (at800 false characters)
 
 -- the output has the space that a reader needs
 unfoldable pub Enough : Reading → ℕ → Type 0
-Enough (at6250 backward words maps) space = 7 * length maps - 1 ≤ space
-Enough (at800 backward characters) space = length characters - 2 ≤ space
+Enough (at6250 backward words maps) space = bytesPerGroup * length maps - 1 ≤ space
+Enough (at800 backward characters) space = length characters - checks ≤ space
 
 -- lengths, space and stray bits have passed: the first three rows of document 01's table
 unfoldable pub Passes : Reading → ℕ → Type 0
