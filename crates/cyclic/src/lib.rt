@@ -23,19 +23,19 @@ impl Code800 {
     pub const AHEAD: usize = 8;
     // G2, which is added to the check character: what the check register holds after a record without error.
     pub const OFFSET: u16 = 471;
-    // The tracks of a character, and the largest number that they hold.
+    // The tracks of a character.
     pub const TRACKS: usize = 9;
-
+    // The largest character, of nine bits.
     pub const MOST_CHARACTER: u16 = 511;
-    // A record's data are 1 to 2,048 bytes.
+    // A record's data are at least so many bytes.
     pub const LEAST_DATA: usize = 1;
-
+    // A record's data are at most so many bytes.
     pub const MOST_DATA: usize = 2048;
     // Behind the data characters stand the check character and the longitudinal character.
     pub const CHECKS: usize = 2;
-    // So a record has 3 to 2,050 characters.
+    // So a record has at least so many characters.
     pub const LEAST_LENGTH: usize = Code800::LEAST_DATA + Code800::CHECKS;
-
+    // A record has at most so many characters.
     pub const MOST_LENGTH: usize = Code800::MOST_DATA + Code800::CHECKS;
 
     // Both registers before any character: all zeros.

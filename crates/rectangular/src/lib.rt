@@ -13,25 +13,25 @@ impl Code6250 {
     pub const FEEDBACK: u8 = 57;
     // The first positive power of T that is the identity.
     pub const EXPONENT: usize = 17;
-    // The tracks of a group, and the last of them, P.
+    // The tracks of a group.
     pub const TRACKS: usize = 9;
-
+    // P, the last of them.
     pub const PARITY_TRACK: usize = 8;
     // The words in which a group is lent, one for each track.
     pub const WORDS: usize = 9;
     // The information bytes of a group, B7 to B1.
     pub const BYTES: usize = 7;
-    // The largest word, of ten bits, and the largest pointer map, of nine.
+    // The largest word, of ten bits.
     pub const MOST_WORD: u16 = 1023;
-
+    // The largest pointer map, of nine bits.
     pub const MOST_MAP: u16 = 511;
-    // A record's data are at most so many bytes, with at most so many zero bytes behind them.
+    // A record's data are at most so many bytes.
     pub const MOST_DATA: usize = 4101;
-
+    // Behind them stand at most so many zero bytes.
     pub const MOST_PADDING: usize = 6;
-    // A record has at most so many groups, and its groups so many information bytes.
+    // A record has at most so many groups.
     pub const MOST_GROUPS: usize = 586;
-
+    // Its groups have at most so many information bytes.
     pub const MOST_BODY: usize = Code6250::MOST_GROUPS * Code6250::BYTES;
 
     // The register before any byte: all zeros.

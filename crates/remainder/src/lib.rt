@@ -23,7 +23,7 @@ fn twelfth_power(byte: u8) -> u64
     Code6250 { register: byte }.powered(12).register as u64
 }
 
-// T^-7 is the power that makes up the exponent.
+// T^-7 is T^10: the power lacks seven of the exponent.
 const SEVENTH_BACK: usize = Code6250::EXPONENT - 7;
 
 // T^-7 times a byte.
