@@ -72,7 +72,7 @@ module _ (w f : ℕ) (positive : 0 < w) (fits : f < 2 ^ w) where
   module _ (info : List ℕ) (below : Below w info) where
     pub character-lt : (i : ℕ) → character w f info i < 2 ^ w
     unfolding character check information
-    character-lt zero = sum-lt w (w - 1) _ (λ i h. shifts-lt w f (suc i) _ fits (below (w - 1 - suc i)))
+    character-lt zero = sum-lt w (w - 1) _ (λ i h. shifts-lt w f _ _ fits (below (w - 1 - suc i)))
     character-lt (suc i) = below (w - 1 - suc i)
 
     rows-checked : xorSum w (λ i. shifts w f i (character w f info i)) ≡ 0
