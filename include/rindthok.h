@@ -3,7 +3,8 @@
  * Each call returns 0 for a delivery, or the number of a refusal, and stores the refusal's place
  * through `place`, or 0. Any lengths and any values may be passed: bad input is refused.
  * A refusal leaves every output as it was. A delivery writes its result at the front of the output
- * and nothing behind it. That is proved of the library, with the contracts of crates/rindthok.
+ * and nothing behind it. That, and all that is said of each call below, is proved of the library: the promise of
+ * every call is `Called`, in crates/rindthok/specs, with the notice's three terms.
  *
  * The caller passes valid pointers, each of which holds for the length beside it; what is written through one,
  * outputs and single numbers alike, overlaps nothing else that is passed.
