@@ -1,13 +1,13 @@
 -- A call from C whose answer, output and figures are those of the call in the library: what it promises follows.
 -- Assumes nothing.
 use mathlib.Core.Bool.{Bool, cond}
-use mathlib.Core.List.{List, List·Memᴰ}
+use mathlib.Core.List.{List}
 use mathlib.Core.Path.{_≡_, sym, ap, ap₂, subst, _∙_}
 use Prim.Native.Nat.{ℕ}
 use native.Mathlib.Omega.{arith}
 use borrow.Author.Tests.{eq-eqb, ne-eqb}
 use lib.ListN.{length}
-use Rattle.answer.specs.Answer.{Answer, delivered, refused, refusals, outputAfter}
+use Rattle.answer.specs.Answer.{Answer, delivered, refused, outputAfter}
 use Rattle.answer.proofs.Listed.{listed-positive}
 use Rattle.terms.specs.Call.{Call, answerTo, resultOf}
 use Rattle.terms.specs.Terms.{FirstTerm}
