@@ -3,12 +3,13 @@ use crate::picture;
 use crate::print;
 use crate::reading;
 use answer::Refusal;
-use libc::STDIN_FILENO;
 use marks::marks::View;
 use marks::marks::group_marks;
 use marks::marks::refused_column;
 use reader6250::Figures;
 use reader6250::Read;
+use streams::PAGE;
+use streams::Text;
 use writer6250::Written;
 ghost use mathlib.Core.Path.{_≡_};
 ghost use Prim.Native.Nat.{_*_, _≤_, min};
@@ -19,15 +20,14 @@ ghost use Rattle.record6250.specs.Record.{writtenRecord};
 ghost use Rattle.reader6250.specs.Told.{toldRead};
 ghost use Rattle.record6250.specs.Written.{writeAnswer};
 
-// Writes the record of the data on standard input.
-pub(crate) fn write() {
-    // One byte more than a record holds, so that longer data are seen and refused.
-    let mut bytes = [0u8; 4102];
-    let count = io::read_full(STDIN_FILENO, &mut bytes);
+// Writes the record of data.
+pub(crate) fn write(page: &mut [u8; PAGE], bytes: &[u8]) -> Text {
     let mut words = [0u16; 5274];
-    match writer6250::write(&bytes[..count], &mut words) {
-        Written::Delivered(groups) => print::words(&words, words_of(groups)),
-        Written::Refused(refusal) => print::refused(refusal),
+    match writer6250::write(bytes, &mut words) {
+        Written::Delivered(groups) => {
+            Text::Output(print::words(page, 0, &words, words_of(groups)))
+        }
+        Written::Refused(refusal) => Text::Output(print::refused(page, refusal)),
     }
 }
 
@@ -38,26 +38,22 @@ fn words_of(groups: usize) -> usize
     if groups > 586 { 5274 } else { groups * 9 }
 }
 
-// Reads the record whose reading is on standard input.
-pub(crate) fn read(backward: bool) {
-    let mut text = io::large_buffer();
-    let size = io::read_full(STDIN_FILENO, &mut text);
-    if size > 65535 {
-        print::too_long();
-        return;
+// Reads the record whose reading is in a text.
+pub(crate) fn read(page: &mut [u8; PAGE], text: &[u8], backward: bool) -> Text {
+    if text.len() > 65535 {
+        return print::too_long(page);
     }
     // One group more than a record has, so that longer readings are seen and refused.
     let mut words = [0u16; 5283];
     let mut maps = [0u16; 587];
-    let parsed = reading::groups(&text[..size], &mut words, &mut maps);
+    let parsed = reading::groups(text, &mut words, &mut maps);
     let fault = parsed.fault;
     if !reading::is_whole(fault) {
-        print::fault(parsed);
-        return;
+        return print::fault(page, parsed);
     }
     let groups = parsed.stored;
     let end = groups * 9;
-    show(&words[..end], &maps[..groups], backward);
+    Text::Output(show(page, &words[..end], &maps[..groups], backward))
 }
 
 // Reads the record, either way.
@@ -80,31 +76,45 @@ fn write_again(bytes: &[u8], count: usize, words: &mut [u16])
     }
 }
 
-// Marks the tracks and prints the picture.
-fn draw(words: &[u16], maps: &[u16], right: &[u16; 5283], view: View)
+// Marks the tracks and draws the picture.
+fn draw(
+    page: &mut [u8; PAGE],
+    held: usize,
+    words: &[u16],
+    maps: &[u16],
+    right: &[u16; 5283],
+    view: View,
+) -> usize
     requires { ⌜ (length (now words) ≡ 9 * length (now maps)) × (length (now maps) ≤ 587) ⌝ }
 {
     let mut marks = [0u8; 5283];
     group_marks(words, maps, right, view, &mut marks);
-    picture::print(&marks, maps.len(), maps.len(), true);
+    picture::draw(page, held, &marks, maps.len(), maps.len(), true)
 }
 
 // A delivery: the figures, the data, and the picture, in which the record that was delivered shows what was
 // corrected.
-fn show_delivered(words: &[u16], maps: &[u16], backward: bool, output: &[u8], figures: Figures)
+fn show_delivered(
+    page: &mut [u8; PAGE],
+    words: &[u16],
+    maps: &[u16],
+    backward: bool,
+    output: &[u8],
+    figures: Figures,
+) -> usize
     requires { ⌜ (length (now words) ≡ 9 * length (now maps)) × (length (now maps) ≤ 587) ⌝ }
 {
-    print::delivered();
-    print::space();
-    print::number(figures.length);
-    print::space();
-    print::number(figures.changes);
-    print::newline();
-    print::data(output, figures.length);
+    let mut end = print::delivered(page);
+    end = print::figure(page, end, figures.length);
+    end = print::figure(page, end, figures.changes);
+    end = print::newline(page, end);
+    end = print::data(page, end, output, figures.length);
     let mut right = [0u16; 5283];
     write_again(output, figures.length, &mut right);
     let place = maps.len();
-    draw(
+    end = draw(
+        page,
+        end,
         words,
         maps,
         &right,
@@ -115,23 +125,33 @@ fn show_delivered(words: &[u16], maps: &[u16], backward: bool, output: &[u8], fi
         },
     );
     print::legend(
+        page,
+        end,
         b"marks: . as read, p pointed and right, c corrected, C pointed and corrected, i illegal and corrected\n",
-    );
+    )
 }
 
 // A refusal: the answer, and the picture of what was read. One for a length or for space has none, since the
 // reading is then no record.
-fn show_refused(words: &[u16], maps: &[u16], backward: bool, refusal: Refusal)
+fn show_refused(
+    page: &mut [u8; PAGE],
+    words: &[u16],
+    maps: &[u16],
+    backward: bool,
+    refusal: Refusal,
+) -> usize
     requires { ⌜ (length (now words) ≡ 9 * length (now maps)) × (length (now maps) ≤ 587) ⌝ }
 {
-    print::refused(refusal);
+    let mut end = print::refused(page, refusal);
     let reason = refusal.reason;
     if reason.number() < 3 {
-        return;
+        return end;
     }
     let right = [0u16; 5283];
     let place = refused_column(reason, refusal.place, maps.len());
-    draw(
+    end = draw(
+        page,
+        end,
         words,
         maps,
         &right,
@@ -141,16 +161,22 @@ fn show_refused(words: &[u16], maps: &[u16], backward: bool, refusal: Refusal)
             place,
         },
     );
-    print::legend(b"marks: . as read, p pointed, i illegal, x refused\n");
+    print::legend(
+        page,
+        end,
+        b"marks: . as read, p pointed, i illegal, x refused\n",
+    )
 }
 
 // Reads the record and shows the answer, the data and the picture.
-fn show(words: &[u16], maps: &[u16], backward: bool)
+fn show(page: &mut [u8; PAGE], words: &[u16], maps: &[u16], backward: bool) -> usize
     requires { ⌜ (length (now words) ≡ 9 * length (now maps)) × (length (now maps) ≤ 587) ⌝ }
 {
     let mut output = [0u8; 4102];
     match answered(words, maps, backward, &mut output) {
-        Read::Delivered(figures) => show_delivered(words, maps, backward, &output, figures),
-        Read::Refused(refusal) => show_refused(words, maps, backward, refusal),
+        Read::Delivered(figures) => {
+            show_delivered(page, words, maps, backward, &output, figures)
+        }
+        Read::Refused(refusal) => show_refused(page, words, maps, backward, refusal),
     }
 }

@@ -3,12 +3,13 @@ use crate::picture;
 use crate::print;
 use crate::reading;
 use answer::Refusal;
-use libc::STDIN_FILENO;
 use marks::marks::View;
 use marks::marks::refused_column;
 use marks::marks::run_marks;
 use reader800::Figures;
 use reader800::Read;
+use streams::PAGE;
+use streams::Text;
 use writer800::Written;
 ghost use mathlib.Core.Path.{_≡_};
 ghost use Prim.Native.Nat.{_+_, _/_, _≤_};
@@ -19,36 +20,29 @@ ghost use Rattle.record800.specs.Record.{writtenRecord};
 ghost use Rattle.reader800.specs.Told.{toldRead};
 ghost use Rattle.record800.specs.Written.{writeAnswer};
 
-// Writes the record of the data on standard input.
-pub(crate) fn write() {
-    // One byte more than a record holds, so that longer data are seen and refused.
-    let mut bytes = [0u8; 2049];
-    let count = io::read_full(STDIN_FILENO, &mut bytes);
+// Writes the record of data.
+pub(crate) fn write(page: &mut [u8; PAGE], bytes: &[u8]) -> Text {
     let mut characters = [0u16; 2050];
-    match writer800::write(&bytes[..count], &mut characters) {
-        Written::Delivered(stored) => print::words(&characters, stored),
-        Written::Refused(refusal) => print::refused(refusal),
+    match writer800::write(bytes, &mut characters) {
+        Written::Delivered(stored) => Text::Output(print::words(page, 0, &characters, stored)),
+        Written::Refused(refusal) => Text::Output(print::refused(page, refusal)),
     }
 }
 
-// Reads the record whose reading is on standard input.
-pub(crate) fn read(backward: bool) {
-    let mut text = io::large_buffer();
-    let size = io::read_full(STDIN_FILENO, &mut text);
-    if size > 65535 {
-        print::too_long();
-        return;
+// Reads the record whose reading is in a text.
+pub(crate) fn read(page: &mut [u8; PAGE], text: &[u8], backward: bool) -> Text {
+    if text.len() > 65535 {
+        return print::too_long(page);
     }
     // One character more than a record has, so that longer readings are seen and refused.
     let mut characters = [0u16; 2051];
-    let parsed = reading::characters(&text[..size], &mut characters);
+    let parsed = reading::characters(text, &mut characters);
     let fault = parsed.fault;
     if !reading::is_whole(fault) {
-        print::fault(parsed);
-        return;
+        return print::fault(page, parsed);
     }
     let stored = parsed.stored;
-    show(&characters[..stored], backward);
+    Text::Output(show(page, &characters[..stored], backward))
 }
 
 // Reads the record, either way.
@@ -79,34 +73,45 @@ fn columns_of(characters: usize) -> usize
     (characters + 31) / 32
 }
 
-// Marks the tracks and prints the picture.
-fn draw(characters: &[u16], right: &[u16; 2051], view: View)
+// Marks the tracks and draws the picture.
+fn draw(
+    page: &mut [u8; PAGE],
+    held: usize,
+    characters: &[u16],
+    right: &[u16; 2051],
+    view: View,
+) -> usize
     requires { ⌜ length (now characters) ≤ 2051 ⌝ }
 {
     let columns = columns_of(characters.len());
     let mut marks = [0u8; 585];
     run_marks(characters, right, view, columns, &mut marks);
-    picture::print(&marks, columns, characters.len(), false);
+    picture::draw(page, held, &marks, columns, characters.len(), false)
 }
 
 // A delivery: the figures, the data, and the picture, in which the record that was delivered shows what was
 // corrected.
-fn show_delivered(characters: &[u16], backward: bool, output: &[u8], figures: Figures)
+fn show_delivered(
+    page: &mut [u8; PAGE],
+    characters: &[u16],
+    backward: bool,
+    output: &[u8],
+    figures: Figures,
+) -> usize
     requires { ⌜ length (now characters) ≤ 2051 ⌝ }
 {
-    print::delivered();
-    print::space();
-    print::number(figures.length);
-    print::space();
-    print::number(figures.track);
-    print::space();
-    print::number(figures.changes);
-    print::newline();
-    print::data(output, figures.length);
+    let mut end = print::delivered(page);
+    end = print::figure(page, end, figures.length);
+    end = print::figure(page, end, figures.track);
+    end = print::figure(page, end, figures.changes);
+    end = print::newline(page, end);
+    end = print::data(page, end, output, figures.length);
     let mut right = [0u16; 2051];
     write_again(output, figures.length, &mut right);
     let place = columns_of(characters.len());
-    draw(
+    end = draw(
+        page,
+        end,
         characters,
         &right,
         View {
@@ -115,22 +120,29 @@ fn show_delivered(characters: &[u16], backward: bool, output: &[u8], figures: Fi
             place,
         },
     );
-    print::legend(b"marks: . as read, c corrected\n");
+    print::legend(page, end, b"marks: . as read, c corrected\n")
 }
 
 // A refusal: the answer, and the picture of what was read. One for a length or for space has none, since the
 // reading is then no record.
-fn show_refused(characters: &[u16], backward: bool, refusal: Refusal)
+fn show_refused(
+    page: &mut [u8; PAGE],
+    characters: &[u16],
+    backward: bool,
+    refusal: Refusal,
+) -> usize
     requires { ⌜ length (now characters) ≤ 2051 ⌝ }
 {
-    print::refused(refusal);
+    let mut end = print::refused(page, refusal);
     let reason = refusal.reason;
     if reason.number() < 3 {
-        return;
+        return end;
     }
     let right = [0u16; 2051];
     let place = refused_column(reason, refusal.place / 32, columns_of(characters.len()));
-    draw(
+    end = draw(
+        page,
+        end,
         characters,
         &right,
         View {
@@ -139,16 +151,16 @@ fn show_refused(characters: &[u16], backward: bool, refusal: Refusal)
             place,
         },
     );
-    print::legend(b"marks: . as read, x refused\n");
+    print::legend(page, end, b"marks: . as read, x refused\n")
 }
 
 // Reads the record and shows the answer, the data and the picture.
-fn show(characters: &[u16], backward: bool)
+fn show(page: &mut [u8; PAGE], characters: &[u16], backward: bool) -> usize
     requires { ⌜ length (now characters) ≤ 2051 ⌝ }
 {
     let mut output = [0u8; 2049];
     match answered(characters, backward, &mut output) {
-        Read::Delivered(figures) => show_delivered(characters, backward, &output, figures),
-        Read::Refused(refusal) => show_refused(characters, backward, refusal),
+        Read::Delivered(figures) => show_delivered(page, characters, backward, &output, figures),
+        Read::Refused(refusal) => show_refused(page, characters, backward, refusal),
     }
 }

@@ -2,7 +2,8 @@
 // at most 64 columns, in the forward order of the record.
 use crate::print::newline;
 use crate::print::number;
-use libc::STDOUT_FILENO;
+use streams::PAGE;
+use streams::put;
 ghost use mathlib.Core.List.{_++_};
 ghost use mathlib.Core.Path.{_≡_};
 ghost use Prim.Native.Nat.{_+_, _-_, _*_, _<_, _≤_, min};
@@ -28,48 +29,63 @@ fn gather(marks: &[u8], track: usize, from: usize, count: usize, row: &mut [u8])
 }
 
 // The label of a track, and a space.
-fn label(track: usize, groups: bool) {
+fn label(page: &mut [u8; PAGE], held: usize, track: usize, groups: bool) -> usize {
     if groups {
         if track == 8 {
-            io::write_all(STDOUT_FILENO, b"P ");
-            return;
+            return put(page, held, b"P ");
         }
     }
-    number(track);
-    io::write_all(STDOUT_FILENO, b" ");
+    let numbered = number(page, held, track);
+    put(page, numbered, b" ")
 }
 
-fn print_row(marks: &[u8], track: usize, from: usize, count: usize)
+fn put_row(
+    page: &mut [u8; PAGE],
+    held: usize,
+    marks: &[u8],
+    track: usize,
+    from: usize,
+    count: usize,
+) -> usize
     requires { ⌜ (track < 9) × (9 * (from + count) ≤ length (now marks)) × (count ≤ 64) ⌝ }
 {
     let mut row = [0u8; 64];
     gather(marks, track, from, count, &mut row);
-    io::write_all(STDOUT_FILENO, &row[..count]);
-    newline();
+    let end = put(page, held, &row[..count]);
+    newline(page, end)
 }
 
 // What the columns of a block show, from the first group or character to the last.
-fn heading(first: usize, last: usize, groups: bool) {
-    if groups {
-        io::write_all(STDOUT_FILENO, b"groups ");
+fn heading(page: &mut [u8; PAGE], held: usize, first: usize, last: usize, groups: bool) -> usize {
+    let begun = if groups {
+        put(page, held, b"groups ")
     } else {
-        io::write_all(STDOUT_FILENO, b"characters ");
-    }
-    number(first);
-    io::write_all(STDOUT_FILENO, b" to ");
-    number(last);
-    newline();
+        put(page, held, b"characters ")
+    };
+    let numbered = number(page, begun, first);
+    let joined = put(page, numbered, b" to ");
+    let end = number(page, joined, last);
+    newline(page, end)
 }
 
-fn print_rows(marks: &[u8], from: usize, count: usize, groups: bool)
+fn put_rows(
+    page: &mut [u8; PAGE],
+    held: usize,
+    marks: &[u8],
+    from: usize,
+    count: usize,
+    groups: bool,
+) -> usize
     requires { ⌜ (9 * (from + count) ≤ length (now marks)) × (count ≤ 64) ⌝ }
 {
+    let mut end = held;
     let mut track = 0;
     while track < 9 {
-        label(track, groups);
-        print_row(marks, track, from, count);
+        end = label(page, end, track, groups);
+        end = put_row(page, end, marks, track, from, count);
         track += 1;
     }
+    end
 }
 
 // How many of the columns that are left the next block has.
@@ -79,10 +95,6 @@ fn block(left: usize) -> usize
     ensures within { λ r. ⌜ (0 < r) × (r ≤ 64) × (r ≤ left) ⌝ }
 {
     if left < 64 { left } else { 64 }
-}
-
-fn title() {
-    io::write_all(STDOUT_FILENO, b"picture\n");
 }
 
 // The first group of a column, or the first character: a column of characters has 32.
@@ -100,17 +112,25 @@ fn before(n: usize) -> usize
     if n == 0 { 0 } else { n - 1 }
 }
 
-// Prints the marks of so many columns, nine to a column, which show so many groups, or characters.
-pub(crate) fn print(marks: &[u8], columns: usize, shown: usize, groups: bool)
+// Puts the marks of so many columns, nine to a column, which show so many groups, or characters.
+pub(crate) fn draw(
+    page: &mut [u8; PAGE],
+    held: usize,
+    marks: &[u8],
+    columns: usize,
+    shown: usize,
+    groups: bool,
+) -> usize
     requires { ⌜ (9 * columns ≤ length (now marks)) × (columns ≤ 587) ⌝ }
 {
-    title();
+    let mut end = put(page, held, b"picture\n");
     let mut from = 0;
     while from < columns {
         let count = block(columns - from);
         let behind = least(first_of(from + count, groups), shown);
-        heading(first_of(from, groups), before(behind), groups);
-        print_rows(marks, from, count, groups);
+        end = heading(page, end, first_of(from, groups), before(behind), groups);
+        end = put_rows(page, end, marks, from, count, groups);
         from += count;
     }
+    end
 }

@@ -1,133 +1,149 @@
-// What is printed: answers, numbers and data on standard output, faults on standard error.
+// What is printed: answers, numbers and data for standard output, faults for standard error. Each function puts its
+// text behind what the page holds, and tells how much it holds then.
 use crate::reading::Parsed;
 use crate::text::Fault;
 use answer::Refusal;
-use libc::STDERR_FILENO;
-use libc::STDOUT_FILENO;
+use streams::PAGE;
+use streams::Text;
+use streams::decimal;
+use streams::hexadecimal;
+use streams::put;
 ghost use Prim.Native.Nat.{_<_};
 
-pub(crate) fn space() {
-    io::write_all(STDOUT_FILENO, b" ");
+pub(crate) fn space(page: &mut [u8; PAGE], held: usize) -> usize {
+    put(page, held, b" ")
 }
 
-pub(crate) fn newline() {
-    io::write_all(STDOUT_FILENO, b"\n");
+pub(crate) fn newline(page: &mut [u8; PAGE], held: usize) -> usize {
+    put(page, held, b"\n")
 }
 
-pub(crate) fn number(value: usize) {
-    io::print_decimal(STDOUT_FILENO, value as u64);
+pub(crate) fn number(page: &mut [u8; PAGE], held: usize, value: usize) -> usize {
+    decimal(page, held, value as u64)
 }
 
-fn word(value: u16) {
-    io::print_decimal(STDOUT_FILENO, value as u64);
+fn word(page: &mut [u8; PAGE], held: usize, value: u16) -> usize {
+    decimal(page, held, value as u64)
 }
 
-fn hexadecimal(byte: u8) {
-    io::print_hex(STDOUT_FILENO, byte as u64, 2);
+fn byte(page: &mut [u8; PAGE], held: usize, value: u8) -> usize {
+    hexadecimal(page, held, value as u64)
 }
 
 // What stands in front of item k, so many to a line: nothing, a space, or the end of a line.
-fn separate(k: usize, width: usize)
+fn separate(page: &mut [u8; PAGE], held: usize, k: usize, width: usize) -> usize
     requires { ⌜ 0 < width ⌝ }
 {
     if k == 0 {
-        return;
+        return held;
     }
     if k % width == 0 {
-        newline();
+        newline(page, held)
     } else {
-        space();
+        space(page, held)
     }
 }
 
 // The first values, nine to a line: at 6250 a group has nine words.
-pub(crate) fn words(values: &[u16], count: usize) {
+pub(crate) fn words(page: &mut [u8; PAGE], held: usize, values: &[u16], count: usize) -> usize {
+    let mut end = held;
     let mut k = 0;
     while k < values.len() {
         if k == count {
             break;
         }
-        separate(k, 9);
-        word(values[k]);
+        end = separate(page, end, k, 9);
+        end = word(page, end, values[k]);
         k += 1;
     }
     if k > 0 {
-        newline();
+        end = newline(page, end);
     }
+    end
 }
 
 // The first bytes in hexadecimal, sixteen to a line, after a line that says what they are.
-pub(crate) fn data(bytes: &[u8], count: usize) {
-    io::write_all(STDOUT_FILENO, b"data\n");
+pub(crate) fn data(page: &mut [u8; PAGE], held: usize, bytes: &[u8], count: usize) -> usize {
+    let mut end = put(page, held, b"data\n");
     let mut k = 0;
     while k < bytes.len() {
         if k == count {
             break;
         }
-        separate(k, 16);
-        hexadecimal(bytes[k]);
+        end = separate(page, end, k, 16);
+        end = byte(page, end, bytes[k]);
         k += 1;
     }
     if k > 0 {
-        newline();
+        end = newline(page, end);
     }
+    end
 }
 
-pub(crate) fn delivered() {
-    io::write_all(STDOUT_FILENO, b"delivered");
+// A figure of a delivery, a space in front of it.
+pub(crate) fn figure(page: &mut [u8; PAGE], held: usize, value: usize) -> usize {
+    let spaced = space(page, held);
+    number(page, spaced, value)
 }
 
-pub(crate) fn refused(refusal: Refusal) {
-    io::write_all(STDOUT_FILENO, b"refused ");
+pub(crate) fn delivered(page: &mut [u8; PAGE]) -> usize {
+    put(page, 0, b"delivered")
+}
+
+pub(crate) fn refused(page: &mut [u8; PAGE], refusal: Refusal) -> usize {
     let reason = refusal.reason;
-    word(reason.number());
-    space();
-    number(refusal.place);
-    newline();
+    let begun = put(page, 0, b"refused ");
+    let numbered = word(page, begun, reason.number());
+    let placed = figure(page, numbered, refusal.place);
+    newline(page, placed)
+}
+
+// What is wrong with a line of so many numbers.
+fn cause(page: &mut [u8; PAGE], held: usize, fault: Fault, numbers: usize) -> usize {
+    match fault {
+        Fault::Nothing => held,
+        Fault::NotANumber => put(page, held, b": not a number\n"),
+        Fault::TooLarge => put(page, held, b": a number above 65535\n"),
+        Fault::NotAGroup => {
+            let begun = put(page, held, b": ");
+            let counted = number(page, begun, numbers);
+            put(
+                page,
+                counted,
+                b" numbers, where a group has nine words and may have a map\n",
+            )
+        }
+    }
 }
 
 // The line of a text that was not read, and why.
-pub(crate) fn fault(parsed: Parsed) {
-    io::write_all(STDERR_FILENO, b"line ");
-    io::print_decimal(STDERR_FILENO, parsed.line as u64);
+pub(crate) fn fault(page: &mut [u8; PAGE], parsed: Parsed) -> Text {
+    let begun = put(page, 0, b"line ");
+    let placed = number(page, begun, parsed.line);
     let fault = parsed.fault;
-    match fault {
-        Fault::Nothing => (),
-        Fault::NotANumber => {
-            io::write_all(STDERR_FILENO, b": not a number\n");
-        }
-        Fault::TooLarge => {
-            io::write_all(STDERR_FILENO, b": a number above 65535\n");
-        }
-        Fault::NotAGroup => {
-            io::write_all(STDERR_FILENO, b": ");
-            io::print_decimal(STDERR_FILENO, parsed.numbers as u64);
-            io::write_all(
-                STDERR_FILENO,
-                b" numbers, where a group has nine words and may have a map\n",
-            );
-        }
-    }
+    Text::Message(cause(page, placed, fault, parsed.numbers))
 }
 
 // What the marks of the picture mean.
-pub(crate) fn legend(line: &[u8]) {
-    io::write_all(STDOUT_FILENO, line);
+pub(crate) fn legend(page: &mut [u8; PAGE], held: usize, line: &[u8]) -> usize {
+    put(page, held, line)
 }
 
-pub(crate) fn too_long() {
-    io::write_all(STDERR_FILENO, b"the text is longer than 65535 bytes\n");
+pub(crate) fn too_long(page: &mut [u8; PAGE]) -> Text {
+    Text::Message(put(page, 0, b"the text is longer than 65535 bytes\n"))
 }
 
-pub(crate) fn usage() {
-    io::write_all(STDERR_FILENO, b"usage: bench write 6250 < data\n");
-    io::write_all(STDERR_FILENO, b"       bench write 800 < data\n");
-    io::write_all(
-        STDERR_FILENO,
+pub(crate) fn usage(page: &mut [u8; PAGE]) -> Text {
+    let first = put(page, 0, b"usage: bench write 6250 < data\n");
+    let second = put(page, first, b"       bench write 800 < data\n");
+    let third = put(
+        page,
+        second,
         b"       bench read 6250 forward|backward < reading\n",
     );
-    io::write_all(
-        STDERR_FILENO,
+    Text::Message(put(
+        page,
+        third,
         b"       bench read 800 forward|backward < reading\n",
-    );
+    ))
 }

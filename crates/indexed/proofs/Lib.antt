@@ -12,3 +12,4 @@ pub mod Map
 pub mod Walk
 pub mod Turned
 pub mod Rule
+pub mod Stores

@@ -3,20 +3,11 @@
 use Prim.Native.Nat.{_*_, _≤_}
 use mathlib.Core.Path.{_≡_, sym}
 use native.Mathlib.Omega.{arith}
-use borrow.Author.Needs.{needs}
 use lib.ListN.{length, take}
 use lib.Seq.{length-take-le}
+use borrow.Author.Needs.{needs}
 use Rattle.bench.proofs.at6250.read.Statement.{statement}
 use Rattle.bench.proofs.at6250.read.Tie as tie
-
-large-buffer-requires : tie.Need-large-buffer-requires
-large-buffer-requires c κs = search needs
-
-slice-aggregate-read-full : tie.Need-slice-aggregate-read-full
-slice-aggregate-read-full c = search needs
-
-read-full-requires : tie.Need-read-full-requires
-read-full-requires c κs = search needs
 
 too-long-requires : tie.Need-too-long-requires
 too-long-requires c κs = search needs
@@ -24,17 +15,11 @@ too-long-requires c κs = search needs
 returns : tie.Need-returns
 returns c = search needs
 
-array-share-prefix-text : tie.Need-array-share-prefix-text
-array-share-prefix-text c = search needs
-
 slice-aggregate-groups : tie.Need-slice-aggregate-groups
 slice-aggregate-groups c = search needs
 
 slice-aggregate-groups-2 : tie.Need-slice-aggregate-groups-2
 slice-aggregate-groups-2 c = search needs
-
-slice-aggregate-groups-3 : tie.Need-slice-aggregate-groups-3
-slice-aggregate-groups-3 c = search needs
 
 groups-requires : tie.Need-groups-requires
 groups-requires c κs = search needs
@@ -65,7 +50,7 @@ slice-aggregate-show-2 c = sym (length-take-le _ _ (search needs))
 
 show-requires : tie.Need-show-requires
 show-requires c κs =
-    let stored = c .before .before .before .before .before .before .groups in
+    let stored = c .before .before .before .before .before .before .before .groups in
     let most : stored .result .stored ≤ 587 = stored .ensures .0 in
     let words : length (take (stored .result .stored * 9) (stored .last .1 .0)) ≡ stored .result .stored * 9 = length-take-le _ _ (search needs) in
     let maps : length (take (stored .result .stored) (stored .last .1 .1 .0)) ≡ stored .result .stored = length-take-le _ _ (search needs) in
@@ -78,15 +63,10 @@ pub read-spec : {M : Type 1} → statement M
 read-spec =
     tie.close
     (tie.spec
-    large-buffer-requires
-    slice-aggregate-read-full
-    read-full-requires
     too-long-requires
     returns
-    array-share-prefix-text
     slice-aggregate-groups
     slice-aggregate-groups-2
-    slice-aggregate-groups-3
     groups-requires
     is-whole-requires
     fault-requires

@@ -3,20 +3,11 @@
 use Prim.Native.Nat.{_≤_}
 use mathlib.Core.Path.{_≡_, sym}
 use native.Mathlib.Omega.{arith}
-use borrow.Author.Needs.{needs}
 use lib.ListN.{length, take}
 use lib.Seq.{length-take-le}
+use borrow.Author.Needs.{needs}
 use Rattle.bench.proofs.at800.read.Statement.{statement}
 use Rattle.bench.proofs.at800.read.Tie as tie
-
-large-buffer-requires : tie.Need-large-buffer-requires
-large-buffer-requires c κs = search needs
-
-slice-aggregate-read-full : tie.Need-slice-aggregate-read-full
-slice-aggregate-read-full c = search needs
-
-read-full-requires : tie.Need-read-full-requires
-read-full-requires c κs = search needs
 
 too-long-requires : tie.Need-too-long-requires
 too-long-requires c κs = search needs
@@ -24,14 +15,8 @@ too-long-requires c κs = search needs
 returns : tie.Need-returns
 returns c = search needs
 
-array-share-prefix-text : tie.Need-array-share-prefix-text
-array-share-prefix-text c = search needs
-
 slice-aggregate-characters : tie.Need-slice-aggregate-characters
 slice-aggregate-characters c = search needs
-
-slice-aggregate-characters-2 : tie.Need-slice-aggregate-characters-2
-slice-aggregate-characters-2 c = search needs
 
 characters-requires : tie.Need-characters-requires
 characters-requires c κs = search needs
@@ -53,7 +38,7 @@ slice-aggregate-show c = sym (length-take-le _ _ (search needs))
 
 show-requires : tie.Need-show-requires
 show-requires c κs =
-    let stored = c .before .before .before .before .characters2 in
+    let stored = c .before .before .before .before .before .characters2 in
     let size : length (take (stored .result .stored) (stored .last .1 .0)) ≡ stored .result .stored = length-take-le _ _ (search needs) in
     let most : stored .result .stored ≤ 2051 = stored .ensures .0 in
     omega arith
@@ -65,14 +50,9 @@ pub read-spec : {M : Type 1} → statement M
 read-spec =
     tie.close
     (tie.spec
-    large-buffer-requires
-    slice-aggregate-read-full
-    read-full-requires
     too-long-requires
     returns
-    array-share-prefix-text
     slice-aggregate-characters
-    slice-aggregate-characters-2
     characters-requires
     is-whole-requires
     fault-requires

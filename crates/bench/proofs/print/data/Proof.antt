@@ -1,22 +1,22 @@
 -- `bench::print::data` is safe and ends: every byte is taken within the slice.
 -- Assumes nothing.
 use Prim.Native.Nat.{_≤_, _-_}
-use borrow.Author.Needs.{needs}
 use lib.ListN.{length}
+use borrow.Author.Needs.{needs}
 use Rattle.bench.proofs.print.data.Statement.{statement}
 use Rattle.bench.proofs.print.data.Tie as tie
 
 abbrev Inv-loop : tie.InvT-loop
-Inv-loop bytes count k₀ k = k ≤ length bytes
+Inv-loop page₀ held bytes count end₀ k₀ page end k = k ≤ length bytes
 
 abbrev μ-loop : tie.MeasureT-loop
-μ-loop bytes count k₀ k = length bytes - k
+μ-loop page₀ held bytes count end₀ k₀ page end k = length bytes - k
 
-slice-aggregate-write-all : tie.Need-slice-aggregate-write-all Inv-loop μ-loop
-slice-aggregate-write-all c = search needs
+slice-aggregate-put : tie.Need-slice-aggregate-put Inv-loop μ-loop
+slice-aggregate-put c = search needs
 
-write-all-requires : tie.Need-write-all-requires Inv-loop μ-loop
-write-all-requires c κs = search needs
+put-requires : tie.Need-put-requires Inv-loop μ-loop
+put-requires c κs = search needs
 
 loop-holds : tie.Need-loop-holds Inv-loop μ-loop
 loop-holds c = search needs
@@ -24,11 +24,11 @@ loop-holds c = search needs
 separate-requires : tie.Need-separate-requires Inv-loop μ-loop
 separate-requires c κs = search needs
 
-shared-slice-read-hexadecimal : tie.Need-shared-slice-read-hexadecimal Inv-loop μ-loop
-shared-slice-read-hexadecimal c = search needs
+shared-slice-read-byte : tie.Need-shared-slice-read-byte Inv-loop μ-loop
+shared-slice-read-byte c = search needs
 
-hexadecimal-requires : tie.Need-hexadecimal-requires Inv-loop μ-loop
-hexadecimal-requires c κs = search needs
+byte-requires : tie.Need-byte-requires Inv-loop μ-loop
+byte-requires c κs = search needs
 
 add-k : tie.Need-add-k Inv-loop μ-loop
 add-k c = search needs
@@ -54,12 +54,12 @@ data-spec =
     (tie.spec
     Inv-loop
     μ-loop
-    slice-aggregate-write-all
-    write-all-requires
+    slice-aggregate-put
+    put-requires
     loop-holds
     separate-requires
-    shared-slice-read-hexadecimal
-    hexadecimal-requires
+    shared-slice-read-byte
+    byte-requires
     add-k
     loop-less
     loop-again

@@ -1,16 +1,16 @@
 -- `bench::print::words` is safe and ends: every value is taken within the slice.
 -- Assumes nothing.
 use Prim.Native.Nat.{_≤_, _-_}
-use borrow.Author.Needs.{needs}
 use lib.ListN.{length}
+use borrow.Author.Needs.{needs}
 use Rattle.bench.proofs.print.words.Statement.{statement}
 use Rattle.bench.proofs.print.words.Tie as tie
 
 abbrev Inv-loop : tie.InvT-loop
-Inv-loop values count k₀ k = k ≤ length values
+Inv-loop page₀ held values count end₀ k₀ page end k = k ≤ length values
 
 abbrev μ-loop : tie.MeasureT-loop
-μ-loop values count k₀ k = length values - k
+μ-loop page₀ held values count end₀ k₀ page end k = length values - k
 
 loop-holds : tie.Need-loop-holds Inv-loop μ-loop
 loop-holds c = search needs

@@ -6,7 +6,7 @@ use native.Mathlib.Omega.{arith}
 use borrow.Author.Needs.{needs}
 use lib.ListN.{length, take, length-set}
 use lib.Seq.{sets}
-use Rattle.bench.proofs.Stores.{sets-taken}
+use Rattle.indexed.proofs.Stores.{sets-taken}
 use Rattle.bench.proofs.reading.copy_words.Statement.{statement}
 use Rattle.bench.proofs.reading.copy_words.Tie as tie
 

@@ -1,18 +1,21 @@
--- `bench::picture::print` is safe and ends: every block has a column at least.
+-- `bench::picture::draw` is safe and ends: every block has a column at least.
 -- Assumes nothing.
 use Prim.Native.Nat.{_≤_, _-_}
 use borrow.Author.Needs.{needs}
-use Rattle.bench.proofs.picture.print.Statement.{statement}
-use Rattle.bench.proofs.picture.print.Tie as tie
+use Rattle.bench.proofs.picture.draw.Statement.{statement}
+use Rattle.bench.proofs.picture.draw.Tie as tie
 
 abbrev Inv-loop : tie.InvT-loop
-Inv-loop marks columns shown groups from₀ from = from ≤ columns
+Inv-loop page₀ held marks columns shown groups end₀ from₀ page end from = from ≤ columns
 
 abbrev μ-loop : tie.MeasureT-loop
-μ-loop marks columns shown groups from₀ from = columns - from
+μ-loop page₀ held marks columns shown groups end₀ from₀ page end from = columns - from
 
-title-requires : tie.Need-title-requires Inv-loop μ-loop
-title-requires c κs = search needs
+slice-aggregate-put : tie.Need-slice-aggregate-put Inv-loop μ-loop
+slice-aggregate-put c = search needs
+
+put-requires : tie.Need-put-requires Inv-loop μ-loop
+put-requires c κs = search needs
 
 loop-holds : tie.Need-loop-holds Inv-loop μ-loop
 loop-holds c = search needs
@@ -41,8 +44,8 @@ before-requires c κs = search needs
 heading-requires : tie.Need-heading-requires Inv-loop μ-loop
 heading-requires c κs = search needs
 
-print-rows-requires : tie.Need-print-rows-requires Inv-loop μ-loop
-print-rows-requires c κs = search needs
+put-rows-requires : tie.Need-put-rows-requires Inv-loop μ-loop
+put-rows-requires c κs = search needs
 
 add-from : tie.Need-add-from Inv-loop μ-loop
 add-from c = search needs
@@ -56,13 +59,14 @@ loop-again c = search needs
 returns : tie.Need-returns Inv-loop μ-loop
 returns c = search needs
 
-pub print-spec : {M : Type 1} → statement M
-print-spec =
+pub draw-spec : {M : Type 1} → statement M
+draw-spec =
     tie.close
     (tie.spec
     Inv-loop
     μ-loop
-    title-requires
+    slice-aggregate-put
+    put-requires
     loop-holds
     sub-block
     block-requires
@@ -72,7 +76,7 @@ print-spec =
     first-of-requires-2
     before-requires
     heading-requires
-    print-rows-requires
+    put-rows-requires
     add-from
     loop-less
     loop-again

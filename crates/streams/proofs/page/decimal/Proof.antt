@@ -1,0 +1,27 @@
+-- `streams::page::decimal` meets its contract: the digits are those of `io::decimal`.
+-- Assumes nothing.
+use mathlib.Core.Path.{sym}
+use borrow.Author.Needs.{needs}
+use Rattle.streams.proofs.page.decimal.Statement.{statement}
+use Rattle.streams.proofs.page.decimal.Tie as tie
+
+decimal-requires : tie.Need-decimal-requires
+decimal-requires c κs = search needs
+
+array-share-prefix-text : tie.Need-array-share-prefix-text
+array-share-prefix-text c = search needs
+
+slice-aggregate-put : tie.Need-slice-aggregate-put
+slice-aggregate-put c = search needs
+
+put-requires : tie.Need-put-requires
+put-requires c κs = search needs
+
+returns : tie.Need-returns
+returns c =
+    let d = c .before .before .before .decimal in (d .result, d .ensures .1 .0, rw (sym (d .ensures .1 .1)) (c .put .ensures))
+
+pub decimal-spec : {M : Type 1} → statement M
+decimal-spec =
+    tie.close
+    (tie.spec decimal-requires array-share-prefix-text slice-aggregate-put put-requires returns)

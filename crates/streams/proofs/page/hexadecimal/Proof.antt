@@ -1,0 +1,27 @@
+-- `streams::page::hexadecimal` meets its contract: the digits are those of `io::hex`.
+-- Assumes nothing.
+use mathlib.Core.Path.{sym}
+use borrow.Author.Needs.{needs}
+use Rattle.streams.proofs.page.hexadecimal.Statement.{statement}
+use Rattle.streams.proofs.page.hexadecimal.Tie as tie
+
+hex-requires : tie.Need-hex-requires
+hex-requires c κs = search needs
+
+array-share-prefix-text : tie.Need-array-share-prefix-text
+array-share-prefix-text c = search needs
+
+slice-aggregate-put : tie.Need-slice-aggregate-put
+slice-aggregate-put c = search needs
+
+put-requires : tie.Need-put-requires
+put-requires c κs = search needs
+
+returns : tie.Need-returns
+returns c =
+    let d = c .before .before .before .hex in (d .result, d .ensures .1 .0, rw (sym (d .ensures .1 .1)) (c .put .ensures))
+
+pub hexadecimal-spec : {M : Type 1} → statement M
+hexadecimal-spec =
+    tie.close
+    (tie.spec hex-requires array-share-prefix-text slice-aggregate-put put-requires returns)

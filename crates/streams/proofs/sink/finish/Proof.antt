@@ -1,0 +1,54 @@
+-- `streams::sink::finish` meets its contract.
+-- Assumes nothing.
+use borrow.Author.Needs.{needs}
+use Rattle.streams.proofs.sink.finish.Statement.{statement}
+use Rattle.streams.proofs.sink.finish.Tie as tie
+
+enum-known-text : tie.Need-enum-known-text
+enum-known-text c = search needs
+
+send-page-requires : tie.Need-send-page-requires
+send-page-requires c κs = search needs
+
+enum-known-text-2 : tie.Need-enum-known-text-2
+enum-known-text-2 c = search needs
+
+output-requires : tie.Need-output-requires
+output-requires c κs = search needs
+
+is-whole-requires : tie.Need-is-whole-requires
+is-whole-requires c κs = search needs
+
+unwritten-requires : tie.Need-unwritten-requires
+unwritten-requires c κs = search needs
+
+send-page-requires-2 : tie.Need-send-page-requires-2
+send-page-requires-2 c κs = search needs
+
+returns : tie.Need-returns
+returns c = rw (c .before .before .before .text .given .1) (c .send-page .ensures)
+
+returns-2 : tie.Need-returns-2
+returns-2 c =
+    let sent = c .before .before .before .before .before .before in
+    rw (sent .before .before .before .text2 .given .1) (sent .output .ensures)
+
+returns-3 : tie.Need-returns-3
+returns-3 c =
+    let sent = c .before .before in
+    rw (sent .before .before .before .text2 .given .1) (sent .output .ensures)
+
+pub finish-spec : {M : Type 1} → statement M
+finish-spec =
+    tie.close
+    (tie.spec
+    enum-known-text
+    send-page-requires
+    enum-known-text-2
+    output-requires
+    is-whole-requires
+    unwritten-requires
+    send-page-requires-2
+    returns
+    returns-2
+    returns-3)

@@ -1,0 +1,4 @@
+pub mod Moved
+pub mod Input
+pub mod Page
+pub mod Sent

@@ -1,0 +1,39 @@
+-- What came of one call of C's `read` or `write`, by its answer and by errno.
+-- Assumes nothing.
+use Prim.Native.Nat.{ℕ, zero, suc, _<_, _≤_}
+use mathlib.Core.Bool.{Bool, true, false, cond}
+use lib.Dec.{eqb}
+use lib.IntN.{ℤ, pos, negsuc}
+use Rattle.streams.specs.declared.moved.Moved.{Moved}
+use Rattle.streams.specs.declared.moved.Moved.the-variants.{Bytes, Nothing, Interrupted, Failed}
+
+-- errors have numbers above 0
+abbrev pub errorNumber : ℤ → ℕ
+errorNumber (pos n) = n
+errorNumber (negsuc n) = 0
+
+-- EINTR: a signal came before any byte was moved
+abbrev pub interruption : ℕ
+interruption = 4
+
+abbrev pub failedBy : ℕ → Moved
+failedBy number = cond (eqb number interruption) Interrupted (Failed number)
+
+-- C answers how many bytes were moved, or -1
+abbrev pub movedBy : ℤ → ℤ → Moved
+movedBy (pos zero) error = Nothing
+movedBy (pos (suc n)) error = Bytes (suc n)
+movedBy (negsuc n) error = failedBy (errorNumber error)
+
+abbrev pub isInterrupted : Moved → Bool
+isInterrupted (Bytes n) = false
+isInterrupted Nothing = false
+isInterrupted Interrupted = true
+isInterrupted (Failed number) = false
+
+-- what is moved is within the space
+abbrev pub Within : Moved → ℕ → Type 0
+Within (Bytes n) space = (0 < n) × (n ≤ space)
+Within Nothing space = Unit {0}
+Within Interrupted space = Unit {0}
+Within (Failed number) space = Unit {0}

@@ -1,0 +1,55 @@
+// What is told of a read or a write that failed: the number of the error, and for the usual ones what it means.
+use crate::page::PAGE;
+use crate::page::decimal;
+use crate::page::put;
+use crate::sink::Sent;
+use crate::sink::Text;
+ghost use Rattle.streams.specs.Sent.{IsMessage};
+
+// What the number of an error means.
+fn meaning(page: &mut [u8; PAGE], held: usize, number: u32) -> usize {
+    match number {
+        4 => put(page, held, b", interrupted too often"),
+        5 => put(page, held, b", the device failed"),
+        9 => put(page, held, b", it is closed"),
+        11 => put(page, held, b", it is not ready"),
+        21 => put(page, held, b", it is a directory"),
+        27 => put(page, held, b", the file is at its limit"),
+        28 => put(page, held, b", no space is left"),
+        32 => put(page, held, b", nobody reads it"),
+        _ => held,
+    }
+}
+
+fn error(page: &mut [u8; PAGE], held: usize, number: u32) -> usize {
+    let numbered = put(page, held, b"error ");
+    let told = decimal(page, numbered, number as u64);
+    let meant = meaning(page, told, number);
+    put(page, meant, b"\n")
+}
+
+// The message of an input that could not be read.
+pub fn unread(page: &mut [u8; PAGE], number: u32) -> Text
+    ensures { λ r. ⌜ IsMessage r ⌝ }
+{
+    let begun = put(page, 0, b"cannot read standard input: ");
+    Text::Message(error(page, begun, number))
+}
+
+// The message of an output that could not be written, of so many bytes.
+pub(crate) fn unwritten(page: &mut [u8; PAGE], sent: Sent, held: usize) -> usize {
+    let begun = put(page, 0, b"cannot write standard output: ");
+    match sent {
+        Sent::Whole => begun,
+        Sent::Cut(count) => cut(page, begun, count, held),
+        Sent::Failed(number) => error(page, begun, number),
+    }
+}
+
+fn cut(page: &mut [u8; PAGE], held: usize, count: usize, all: usize) -> usize {
+    let begun = put(page, held, b"cut behind ");
+    let counted = decimal(page, begun, count as u64);
+    let joined = put(page, counted, b" of ");
+    let told = decimal(page, joined, all as u64);
+    put(page, told, b" bytes\n")
+}
