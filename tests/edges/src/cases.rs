@@ -1,0 +1,41 @@
+//! What is tried with every invocation, and what has to come of it.
+
+use crate::expected::{Said, Said::*, Written, Written::*};
+use crate::hindrance::{Hindrance, Hindrance::*, Setting};
+
+/// A name, how the run is hindered, and what standard output and standard error get.
+pub type Case = (&'static str, Setting, Written, Said);
+
+/// A file limit that is below every good output.
+pub const LIMIT: usize = 1024;
+
+const MUTE: Hindrance = Closed(2);
+
+pub const ALL: &[Case] = &[
+    ("plain", &[], All, Silence),
+    ("a directory", &[Directory], Nothing, Unread(21)),
+    ("closed input", &[Closed(0)], Nothing, Unread(9)),
+    ("half is late, not awaited", &[Hasty], Nothing, Unread(11)),
+    ("half is never an answer", &[Hasty], AllOrNothing, Anything),
+    ("half is late, awaited", &[Late], All, Silence),
+    // the shim lets 10 bytes through before a read fails, and 100 before a write does
+    ("EIO of read", &[Shim("read")], Nothing, Unread(5)),
+    ("EIO of write", &[Shim("write")], First(100), Unwritten(5)),
+    ("EIO of close", &[Shim("close")], All, Unwritten(5)),
+    ("no space", &[Full], Nothing, Unwritten(28)),
+    ("closed output", &[Closed(1)], Nothing, Unwritten(9)),
+    ("a file", &[Limit(1 << 20)], All, Silence),
+    ("a file limit", &[Limit(LIMIT)], First(LIMIT), Cut),
+    ("a mild file limit", &[MildLimit(LIMIT)], First(LIMIT), Cut),
+    ("a file limit of 0", &[MildLimit(0)], Nothing, Unwritten(27)),
+    ("write calls", &[Packets], All, Silence),
+    // every second call is interrupted, and the others move 7 bytes at most
+    ("hostile pipes", &[Shim("hostile")], All, Silence),
+    ("hostile socket", &[Shim("hostile"), Packets], All, Silence),
+    // a closed standard error, where nothing can be told, changes nothing else
+    ("mute", &[MUTE], All, Silence),
+    ("mute, a directory", &[MUTE, Directory], Nothing, Silence),
+    ("mute, closed input", &[MUTE, Closed(0)], Nothing, Silence),
+    ("mute, no space", &[MUTE, Full], Nothing, Silence),
+    ("mute, limit", &[MUTE, Limit(LIMIT)], First(LIMIT), Silence),
+];

@@ -1,0 +1,80 @@
+//! What has to come of a run, and in what a run differs from it.
+
+use crate::run::Ran;
+
+/// What standard output has to get of the good output.
+#[derive(Clone, Copy, Debug)]
+pub enum Written {
+    All,
+    Nothing,
+    AllOrNothing,
+    First(usize),
+}
+
+/// What standard error has to get: nothing, or one line with the number of an error, or one line that tells how much of
+/// the output a file took.
+#[derive(Clone, Copy)]
+pub enum Said {
+    Silence,
+    Anything,
+    Unread(u32),
+    Unwritten(u32),
+    Cut,
+}
+
+impl Written {
+    fn holds(self, output: &[u8], good: &[u8]) -> bool {
+        match self {
+            Written::All => output == good,
+            Written::Nothing => output.is_empty(),
+            Written::AllOrNothing => output.is_empty() || output == good,
+            Written::First(count) => good.get(..count) == Some(output),
+        }
+    }
+}
+
+impl Said {
+    /// How the line begins, if so many bytes of the whole output are there.
+    fn start(self, count: usize, whole: usize) -> String {
+        let unwritten = "cannot write standard output:";
+        match self {
+            Said::Silence | Said::Anything => String::new(),
+            Said::Unread(error) => format!("cannot read standard input: error {error}"),
+            Said::Unwritten(error) => format!("{unwritten} error {error}"),
+            Said::Cut => format!("{unwritten} cut behind {count} of {whole} bytes"),
+        }
+    }
+
+    /// What follows the start may not go on with its number: error 2 is not error 21.
+    fn holds(self, said: &str, start: &str) -> bool {
+        let line = said.strip_suffix('\n').filter(|line| !line.contains('\n'));
+        let rest = line.and_then(|line| line.strip_prefix(start));
+        let digit = |next: char| next.is_ascii_digit();
+        match self {
+            Said::Silence => said.is_empty(),
+            Said::Anything => true,
+            Said::Unread(_) => rest.is_some_and(|rest| rest.is_empty() || rest.starts_with(", ")),
+            Said::Unwritten(_) | Said::Cut => rest.is_some_and(|rest| !rest.starts_with(digit)),
+        }
+    }
+}
+
+/// What was seen and was not due. Whatever fails, the exit status is 0.
+pub fn differences(ran: &Ran, written: Written, said: Said, good: &[u8]) -> Vec<String> {
+    let (count, whole) = (ran.output.len(), good.len());
+    let mut seen = Vec::new();
+    if ran.ended != "exit status: 0" {
+        seen.push(format!("ended with {}", ran.ended));
+    }
+    if !written.holds(&ran.output, good) {
+        let pairs = ran.output.iter().zip(good);
+        let same = pairs.take_while(|(a, b)| a == b).count();
+        let wrote = format!("wrote {count} bytes, {same} of them as the {whole} of a good run");
+        seen.push(format!("{wrote}, due: {written:?}"));
+    }
+    let start = said.start(count, whole);
+    if !said.holds(&ran.said, &start) {
+        seen.push(format!("said {:?}, due: {start:?}", ran.said));
+    }
+    seen
+}
