@@ -12,7 +12,7 @@ static void print_words(const char *what, const uint16_t *words)
     printf("\n");
 }
 
-static void read_and_print(const char *what, const uint16_t *words, uint16_t map)
+static void read_and_print(const char *what, const uint16_t *words, rindthok_algebraic_map map)
 {
     uint8_t bytes[6] = {0};
     size_t size = 0, changes = 0, place = 0;
@@ -27,7 +27,9 @@ static void read_and_print(const char *what, const uint16_t *words, uint16_t map
 int main(void)
 {
     const uint8_t bytes[1] = {0x01};
-    uint16_t code[9] = {0}, head[9] = {0}, back[9] = {0}, map = 0;
+    uint16_t code[9] = {0}, head[9] = {0}, back[9] = {0};
+    const rindthok_algebraic_map none = {0}, another = {1 << 3};
+    rindthok_algebraic_map map = {0};
     size_t groups = 0, place = 0;
 
     if (rindthok_write6250(bytes, 1, code, 9, &groups, &place) == 0)
@@ -36,16 +38,16 @@ int main(void)
     if (rindthok_words_to_physical(code, 9, head, 9, &place) == 0)
         print_words("head order:", head);
 
-    /* two weak tracks, which the drive points at: physical 4 and 7 are algebraic 8 and 0 */
+    /* two weak tracks, which the drive points at: physical 4 and 7 are algebraic 8 and 0; words and map are moved */
     head[3] = 825;
     head[6] = 825;
     rindthok_words_to_algebraic(head, 9, back, 9, &place);
     rindthok_map_to_algebraic(1 << 3 | 1 << 6, &map, &place);
     print_words("two damaged:", back);
     read_and_print("with their pointers", back, map);
-    read_and_print("with no pointer", back, 0);
+    read_and_print("with no pointer", back, none);
     back[8] = code[8];
-    read_and_print("one damaged, with no pointer", back, 0);
-    read_and_print("one damaged, another pointed", back, 8);
+    read_and_print("one damaged, with no pointer", back, none);
+    read_and_print("one damaged, another pointed", back, another);
     return 0;
 }
