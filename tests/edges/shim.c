@@ -1,12 +1,12 @@
-/* Stands in front of the C library's read, write and close, and fails as EDGES_SHIM says. Only standard input and
- * standard output are touched: how a program reads its arguments is not tried here. */
+/* Stands in front of the C library's read, write and close, and fails as EDGES_SHIM says. Only the standard streams are
+ * touched: how a program reads its arguments is not tried here. */
 #include <errno.h>
 #include <stdlib.h>
 #include <string.h>
 #include <sys/syscall.h>
 #include <unistd.h>
 
-/* What went through one of the two, how many bytes it takes before it breaks, and what asks for that. */
+/* What went through one of the three, how many bytes it takes before it breaks, and what asks for that. */
 struct stream {
     size_t calls;
     size_t moved;
@@ -16,6 +16,7 @@ struct stream {
 
 static struct stream input = {.whole = 10, .broken = "read"};
 static struct stream output = {.whole = 100, .broken = "write"};
+static struct stream messages = {.broken = "nothing"};
 
 static int asked(const char *failure)
 {
@@ -63,8 +64,11 @@ ssize_t read(int file, void *bytes, size_t count)
 
 ssize_t write(int file, const void *bytes, size_t count)
 {
-    return file == STDOUT_FILENO ? move(&output, SYS_write, file, (void *)bytes, count)
-                                 : syscall(SYS_write, file, bytes, count);
+    if (file == STDOUT_FILENO)
+        return move(&output, SYS_write, file, (void *)bytes, count);
+    if (file == STDERR_FILENO)
+        return move(&messages, SYS_write, file, (void *)bytes, count);
+    return syscall(SYS_write, file, bytes, count);
 }
 
 /* A network file system may tell only at the close that bytes were lost; the descriptor is closed all the same. */

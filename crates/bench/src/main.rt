@@ -9,7 +9,7 @@ mod reading;
 mod text;
 
 use arguments::Request;
-use streams::Input;
+use streams::Ended;
 use streams::PAGE;
 use streams::Text;
 
@@ -32,8 +32,8 @@ fn answer(page: &mut [u8; PAGE], request: Request) -> Text {
     }
     let mut input = io::large_buffer();
     match streams::read(&mut input) {
-        Input::Whole(count) => done(page, request, &input[..count]),
-        Input::Failed(number) => streams::unread(page, number),
+        Ended::After(count) => done(page, request, &input[..count]),
+        Ended::Failed(number) => streams::unread(page, number),
     }
 }
 

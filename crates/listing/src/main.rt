@@ -1,7 +1,7 @@
 // The listing program (document 01, "Bench readings"): reads data from standard input and prints the
 // words of the 6250 record that is written from them, a line of nine for each group; or the refusal.
 use answer::Refusal;
-use streams::Input;
+use streams::Ended;
 use streams::PAGE;
 use streams::Text;
 use streams::decimal;
@@ -67,8 +67,8 @@ fn listed(page: &mut [u8; PAGE]) -> Text {
     // One byte more than a record holds, so that longer data are seen and refused.
     let mut bytes = [0u8; 4102];
     match streams::read(&mut bytes) {
-        Input::Whole(count) => listing(page, &bytes[..count]),
-        Input::Failed(number) => streams::unread(page, number),
+        Ended::After(count) => listing(page, &bytes[..count]),
+        Ended::Failed(number) => streams::unread(page, number),
     }
 }
 

@@ -7,13 +7,10 @@ use native.Mathlib.Omega.{arith}
 use lib.ListN.{length, drop, take, length-drop}
 use lib.Seq.{length-take-le}
 use Rattle.io.specs.Counts.{Counts}
-use Rattle.streams.specs.Moved.{Within}
-use Rattle.streams.specs.Input.{Filled, endedBy}
-use Rattle.streams.specs.Sent.{Taken, stoppedBy}
-use Rattle.streams.specs.declared.sink.Sent.{Sent}
-use Rattle.streams.specs.declared.sink.Sent.the-variants.{Whole, Cut, Failed as Unsent}
-use Rattle.streams.specs.declared.source.Input.{Input}
-use Rattle.streams.specs.declared.source.Input.the-variants.{Whole as Read}
+use Rattle.streams.specs.Moved.{Within, endedBy}
+use Rattle.streams.specs.Ended.{Filled, Taken}
+use Rattle.streams.specs.declared.moved.Ended.{Ended}
+use Rattle.streams.specs.declared.moved.Ended.the-variants.{After}
 use Rattle.streams.specs.declared.moved.Moved.{Moved}
 use Rattle.streams.specs.declared.moved.Moved.the-variants.{Bytes, Nothing, Interrupted, Failed}
 
@@ -29,32 +26,27 @@ progress space count rest more came h r e w =
 pub counted : (space : List ℕ) (count : ℕ) → count ≤ length space → Counts count space
 counted space count h = (h, sym (length-take-le count space h))
 
--- what came before the last read is in the space
-pub filled : (space : List ℕ) (count : ℕ) (last : Moved) (input : Input) → count ≤ length space → input ≡ endedBy count last → Filled input space
-filled space count last input h e = rw e (of last)
-  where
-    of : (last : Moved) → Filled (endedBy count last) space
-    of (Bytes n) = counted space count h
-    of Nothing = counted space count h
-    of Interrupted = tt
-    of (Failed number) = tt
+module _ (count : ℕ) (last : Moved) (ended : Ended) (e : ended ≡ endedBy count last) where
+  -- what came before the last read is in the space
+  pub filled : (space : List ℕ) → count ≤ length space → Filled ended space
+  filled space h = rw e (of last)
+    where
+      of : (last : Moved) → Filled (endedBy count last) space
+      of (Bytes n) = counted space count h
+      of Nothing = counted space count h
+      of Interrupted = tt
+      of (Failed number) = tt
 
--- a whole input counts what is at the front of the space
-pub whole : (input : Input) (count : ℕ) (space : List ℕ) → input ≡ Read count → Filled input space → Counts count space
-whole input count space e h = subst (λ (i : Input). Filled i space) e h
+  -- what was taken before the last write is of the text
+  pub taken : (all : ℕ) → count ≤ all → Taken ended all
+  taken all h = rw e (of last)
+    where
+      of : (last : Moved) → Taken (endedBy count last) all
+      of (Bytes n) = h
+      of Nothing = h
+      of Interrupted = tt
+      of (Failed number) = tt
 
--- a text that was not taken whole is cut
-pub stops : (count all : ℕ) (last : Moved) (sent : Sent) → count < all → sent ≡ stoppedBy count last → Taken sent all
-stops count all last sent h e = rw e (of last)
-  where
-    of : (last : Moved) → Taken (stoppedBy count last) all
-    of (Bytes n) = h
-    of Nothing = h
-    of Interrupted = tt
-    of (Failed number) = tt
-
--- what is no cut of nothing is no cut
-pub taken-of-none : (all : ℕ) (sent : Sent) → Taken sent 0 → Taken sent all
-taken-of-none all Whole h = tt
-taken-of-none all (Cut count) h = absurd (omega arith)
-taken-of-none all (Unsent number) h = tt
+-- an input that was read is at the front of the space
+pub read-whole : (ended : Ended) (count : ℕ) (space : List ℕ) → ended ≡ After count → Filled ended space → Counts count space
+read-whole ended count space e h = subst (λ (i : Ended). Filled i space) e h

@@ -1,4 +1,3 @@
 pub mod Moved
-pub mod Input
+pub mod Ended
 pub mod Page
-pub mod Sent

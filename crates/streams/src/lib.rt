@@ -8,12 +8,11 @@ mod sink;
 mod source;
 
 pub use message::unread;
+pub use moved::Ended;
 pub use page::PAGE;
 pub use page::decimal;
 pub use page::hexadecimal;
 pub use page::put;
-pub use sink::Sent;
 pub use sink::Text;
 pub use sink::finish;
-pub use source::Input;
 pub use source::read;

@@ -1,10 +1,10 @@
 // What is told of a read or a write that failed: the number of the error, and for the usual ones what it means.
+use crate::moved::Ended;
 use crate::page::PAGE;
 use crate::page::decimal;
 use crate::page::put;
-use crate::sink::Sent;
 use crate::sink::Text;
-ghost use Rattle.streams.specs.Sent.{IsMessage};
+ghost use Rattle.streams.specs.Ended.{IsMessage};
 
 // What the number of an error means.
 fn meaning(page: &mut [u8; PAGE], held: usize, number: u32) -> usize {
@@ -36,13 +36,12 @@ pub fn unread(page: &mut [u8; PAGE], number: u32) -> Text
     Text::Message(error(page, begun, number))
 }
 
-// The message of an output that could not be written, of so many bytes.
-pub(crate) fn unwritten(page: &mut [u8; PAGE], sent: Sent, held: usize) -> usize {
+// The message of an output of so many bytes that could not be written whole.
+pub(crate) fn unwritten(page: &mut [u8; PAGE], sent: Ended, all: usize) -> usize {
     let begun = put(page, 0, b"cannot write standard output: ");
     match sent {
-        Sent::Whole => begun,
-        Sent::Cut(count) => cut(page, begun, count, held),
-        Sent::Failed(number) => error(page, begun, number),
+        Ended::After(count) => cut(page, begun, count, all),
+        Ended::Failed(number) => error(page, begun, number),
     }
 }
 

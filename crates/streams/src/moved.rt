@@ -1,6 +1,6 @@
 // What came of one call of C's `read` or `write`.
 ghost use mathlib.Core.Path.{_≡_};
-ghost use Rattle.streams.specs.Moved.{errorNumber, failedBy, movedBy, isInterrupted};
+ghost use Rattle.streams.specs.Moved.{errorNumber, failedBy, movedBy, isInterrupted, endedBy};
 
 // So many bytes were moved; none was, which for a read is the end of the input; a signal came first, and the call is to
 // be made again; or it failed, with the number of the error.
@@ -59,5 +59,23 @@ pub(crate) fn is_interrupted(moved: Moved) -> bool
         Moved::Bytes(_) => false,
         Moved::Nothing => false,
         Moved::Failed(_) => false,
+    }
+}
+
+// How reading or writing ended: after so many bytes, or in an error, with its number.
+pub enum Ended {
+    After(usize),
+    Failed(u32),
+}
+
+// The end, once so many bytes were moved and the last call moved none: only a call that says so is no failure.
+pub(crate) fn end(count: usize, last: Moved) -> Ended
+    ensures { λ r. ⌜ r ≡ endedBy count last ⌝ }
+{
+    match last {
+        Moved::Bytes(_) => Ended::After(count),
+        Moved::Nothing => Ended::After(count),
+        Moved::Interrupted => Ended::Failed(INTERRUPTED),
+        Moved::Failed(number) => Ended::Failed(number),
     }
 }

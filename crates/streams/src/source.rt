@@ -1,21 +1,14 @@
 // Standard input, read to its end.
-use crate::moved::INTERRUPTED;
+use crate::moved::Ended;
 use crate::moved::Moved;
 use crate::moved::TRIES;
+use crate::moved::end;
 use crate::moved::is_interrupted;
 use crate::moved::outcome;
 use libc::STDIN_FILENO;
-ghost use mathlib.Core.Path.{_≡_};
 ghost use lib.ListN.{length};
 ghost use Rattle.streams.specs.Moved.{Within};
-ghost use Rattle.streams.specs.Input.{Filled, endedBy};
-
-// What came of reading: the input as far as the space holds it, so many bytes at its front, or the number of the error
-// that a read ended in.
-pub enum Input {
-    Whole(usize),
-    Failed(u32),
-}
+ghost use Rattle.streams.specs.Ended.{Filled};
 
 // One read into the space, made again where a signal came first.
 fn read_some(space: &mut [u8]) -> Moved
@@ -33,29 +26,18 @@ fn read_some(space: &mut [u8]) -> Moved
     Moved::Interrupted
 }
 
-// The input, once a read moved nothing: only a read that says so is its end.
-fn ended(count: usize, last: Moved) -> Input
-    ensures { λ r. ⌜ r ≡ endedBy count last ⌝ }
-{
-    match last {
-        Moved::Bytes(_) => Input::Whole(count),
-        Moved::Nothing => Input::Whole(count),
-        Moved::Interrupted => Input::Failed(INTERRUPTED),
-        Moved::Failed(number) => Input::Failed(number),
-    }
-}
-
-// Reads until the space is full, the input ends or a read fails.
-pub fn read(space: &mut [u8]) -> Input
+// Reads until the space is full, the input ends or a read fails. Fewer bytes than there is space for are the whole rest of
+// the input.
+pub fn read(space: &mut [u8]) -> Ended
     ensures { λ r. ⌜ Filled r (now (space .exit)) ⌝ }
 {
     let mut count = 0;
     while count < space.len() {
         let last = read_some(&mut space[count..]);
         let Moved::Bytes(more) = last else {
-            return ended(count, last);
+            return end(count, last);
         };
         count += more;
     }
-    Input::Whole(count)
+    Ended::After(count)
 }

@@ -10,6 +10,7 @@ pub type Case = (&'static str, Setting, Written, Said);
 pub const LIMIT: usize = 1024;
 
 const MUTE: Hindrance = Closed(2);
+const HOSTILE: Hindrance = Shim("hostile");
 
 pub const ALL: &[Case] = &[
     ("plain", &[], All, Silence),
@@ -30,8 +31,14 @@ pub const ALL: &[Case] = &[
     ("a file limit of 0", &[MildLimit(0)], Nothing, Unwritten(27)),
     ("write calls", &[Packets], All, Silence),
     // every second call is interrupted, and the others move 7 bytes at most
-    ("hostile pipes", &[Shim("hostile")], All, Silence),
-    ("hostile socket", &[Shim("hostile"), Packets], All, Silence),
+    ("hostile pipes", &[HOSTILE], All, Silence),
+    ("hostile socket", &[HOSTILE, Packets], All, Silence),
+    (
+        "hostile, no space",
+        &[HOSTILE, Full],
+        Nothing,
+        Unwritten(28),
+    ),
     // a closed standard error, where nothing can be told, changes nothing else
     ("mute", &[MUTE], All, Silence),
     ("mute, a directory", &[MUTE, Directory], Nothing, Silence),

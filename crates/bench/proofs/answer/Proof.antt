@@ -1,7 +1,7 @@
 -- `bench::answer` is safe: what was read is within the input.
 -- Assumes nothing.
 use borrow.Author.Needs.{needs}
-use Rattle.streams.proofs.Progress.{whole}
+use Rattle.streams.proofs.Progress.{read-whole}
 use Rattle.bench.proofs.answer.Statement.{statement}
 use Rattle.bench.proofs.answer.Tie as tie
 
@@ -29,12 +29,12 @@ enum-known-count c = search needs
 array-share-prefix-input : tie.Need-array-share-prefix-input
 array-share-prefix-input c =
     let read = c .before .before .before .before .before .read in
-    whole (read .result) _ _ (c .before .before .count .given .1) (read .ensures) .0
+    read-whole (read .result) _ _ (c .before .before .count .given .1) (read .ensures) .0
 
 slice-aggregate-done : tie.Need-slice-aggregate-done
 slice-aggregate-done c =
     let read = c .before .before .before .before .before .before .read in
-    whole (read .result) _ _ (c .before .before .before .count .given .1) (read .ensures) .1
+    read-whole (read .result) _ _ (c .before .before .before .count .given .1) (read .ensures) .1
 
 done-requires : tie.Need-done-requires
 done-requires c κs = search needs

@@ -1,7 +1,7 @@
 -- `listing::listed` is safe: what was read is within the bytes.
 -- Assumes nothing.
 use borrow.Author.Needs.{needs}
-use Rattle.streams.proofs.Progress.{whole}
+use Rattle.streams.proofs.Progress.{read-whole}
 use Rattle.listing.proofs.listed.Statement.{statement}
 use Rattle.listing.proofs.listed.Tie as tie
 
@@ -17,12 +17,12 @@ enum-known-count c = search needs
 array-share-prefix-bytes : tie.Need-array-share-prefix-bytes
 array-share-prefix-bytes c =
     let read = c .before .before .before .before .before .read in
-    whole (read .result) _ _ (c .before .before .count .given .1) (read .ensures) .0
+    read-whole (read .result) _ _ (c .before .before .count .given .1) (read .ensures) .0
 
 slice-aggregate-listing : tie.Need-slice-aggregate-listing
 slice-aggregate-listing c =
     let read = c .before .before .before .before .before .before .read in
-    whole (read .result) _ _ (c .before .before .before .count .given .1) (read .ensures) .1
+    read-whole (read .result) _ _ (c .before .before .before .count .given .1) (read .ensures) .1
 
 listing-requires : tie.Need-listing-requires
 listing-requires c κs = search needs

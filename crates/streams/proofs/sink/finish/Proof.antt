@@ -1,4 +1,4 @@
--- `streams::sink::finish` meets its contract.
+-- `streams::sink::finish` meets its contract: what comes of the text is what came of handing it over.
 -- Assumes nothing.
 use borrow.Author.Needs.{needs}
 use Rattle.streams.proofs.sink.finish.Statement.{statement}

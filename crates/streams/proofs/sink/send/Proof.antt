@@ -1,11 +1,11 @@
 -- `streams::sink::send` meets its contract. The loop's invariant: what was taken is within the bytes.
 -- Assumes nothing.
-use Prim.Native.Nat.{ℕ, _-_, _≤_, _<_}
+use Prim.Native.Nat.{ℕ, _-_, _≤_}
 use mathlib.Core.Path.{refl}
 use native.Mathlib.Omega.{arith}
-use borrow.Author.Needs.{needs}
 use lib.ListN.{length}
-use Rattle.streams.proofs.Progress.{progress, stops}
+use Rattle.streams.proofs.Progress.{progress, taken}
+use borrow.Author.Needs.{needs}
 use Rattle.streams.proofs.sink.send.Statement.{statement}
 use Rattle.streams.proofs.sink.send.Tie as tie
 
@@ -33,13 +33,13 @@ write-some-requires c κs = search needs
 enum-known-last : tie.Need-enum-known-last Inv-loop μ-loop
 enum-known-last c = search needs
 
-stopped-requires : tie.Need-stopped-requires Inv-loop μ-loop
-stopped-requires c κs = search needs
+end-requires : tie.Need-end-requires Inv-loop μ-loop
+end-requires c κs = search needs
 
 returns : tie.Need-returns Inv-loop μ-loop
 returns c =
     let l = c .before .before .before .before .before .loop in
-    stops (l .count) _ (c .before .before .write-some .result) (c .stopped .result) (c .before .before .before .before .loop-test .taken) (c .stopped .ensures)
+    taken (l .count) (c .before .before .write-some .result) (c .end .result) (c .end .ensures) _ (l .inv)
 
 add-count : tie.Need-add-count Inv-loop μ-loop
 add-count c =
@@ -53,9 +53,6 @@ add-count c =
 
 is-cut-requires : tie.Need-is-cut-requires Inv-loop μ-loop
 is-cut-requires c κs = search needs
-
-returns-2 : tie.Need-returns-2 Inv-loop μ-loop
-returns-2 c = c .before .is-cut .ensures (c .if1 .taken)
 
 loop-less : tie.Need-loop-less Inv-loop μ-loop
 loop-less c =
@@ -77,8 +74,18 @@ loop-again c =
     let p = progress bytes (l .count) _ _ (some .result) (l .inv) refl (k .before .last .given .1) (some .ensures) in
     p .1
 
+returns-2 : tie.Need-returns-2 Inv-loop μ-loop
+returns-2 c = search needs
+
 returns-3 : tie.Need-returns-3 Inv-loop μ-loop
-returns-3 c = search needs
+returns-3 c =
+    let k = c .before .before in
+    let at = k .before .before .before .before .before .before in
+    let l = at .loop in
+    let bytes = at .before .before .args .bytes .now in
+    let some = k .before .before .before .write-some in
+    let p = progress bytes (l .count) _ _ (some .result) (l .inv) refl (k .before .last .given .1) (some .ensures) in
+    p .1
 
 pub send-spec : {M : Type 1} → statement M
 send-spec =
@@ -92,11 +99,11 @@ send-spec =
     part-write-some-end
     write-some-requires
     enum-known-last
-    stopped-requires
+    end-requires
     returns
     add-count
     is-cut-requires
-    returns-2
     loop-less
     loop-again
+    returns-2
     returns-3)

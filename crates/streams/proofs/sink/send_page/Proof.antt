@@ -5,7 +5,7 @@ use mathlib.Core.Path.{_≡_, sym, subst}
 use borrow.Author.Needs.{needs}
 use lib.ListN.{length, take}
 use lib.Seq.{length-take-le}
-use Rattle.streams.specs.Sent.{Taken}
+use Rattle.streams.specs.Ended.{Taken}
 use Rattle.streams.proofs.sink.send_page.Statement.{statement}
 use Rattle.streams.proofs.sink.send_page.Tie as tie
 

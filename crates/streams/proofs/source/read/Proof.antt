@@ -34,8 +34,8 @@ read-some-requires c κs = search needs
 enum-known-last : tie.Need-enum-known-last Inv-loop μ-loop
 enum-known-last c = search needs
 
-ended-requires : tie.Need-ended-requires Inv-loop μ-loop
-ended-requires c κs = search needs
+end-requires : tie.Need-end-requires Inv-loop μ-loop
+end-requires c κs = search needs
 
 same-length : tie.Need-same-length Inv-loop μ-loop
 same-length c = search needs
@@ -47,7 +47,7 @@ returns c =
     let after = putMid (l .count) (length (l .space) - l .count) (l .space) (some .last .0) in
     let same : length after ≡ length (l .space) = same-len-mid (l .count) (length (l .space) - l .count) (l .space) (some .last .0) (some .kept .0) in
     let within : l .count ≤ length after = omega (arith, l .inv .0, same) in
-    filled after (l .count) (some .result) (c .ended .result) within (c .ended .ensures)
+    filled (l .count) (some .result) (c .end .result) (c .end .ensures) after within
 
 add-count : tie.Need-add-count Inv-loop μ-loop
 add-count c =
@@ -89,7 +89,7 @@ read-spec =
     part-read-some-end
     read-some-requires
     enum-known-last
-    ended-requires
+    end-requires
     same-length
     returns
     add-count

@@ -1,8 +1,8 @@
--- `streams::sink::stopped` meets its contract.
+-- `streams::moved::end` meets its contract.
 -- Assumes nothing.
 use borrow.Author.Needs.{needs}
-use Rattle.streams.proofs.sink.stopped.Statement.{statement}
-use Rattle.streams.proofs.sink.stopped.Tie as tie
+use Rattle.streams.proofs.moved.end.Statement.{statement}
+use Rattle.streams.proofs.moved.end.Tie as tie
 
 enum-told : tie.Need-enum-told
 enum-told c = search needs
@@ -28,5 +28,5 @@ returns-3 c = simp (c .enum-told3 .given .1)
 returns-4 : tie.Need-returns-4
 returns-4 c = simp (c .before .last .given .1)
 
-pub stopped-spec : {M : Type 1} → statement M
-stopped-spec = tie.close (tie.spec enum-told enum-told-2 enum-told-3 enum-known-last returns returns-2 returns-3 returns-4)
+pub end-spec : {M : Type 1} → statement M
+end-spec = tie.close (tie.spec enum-told enum-told-2 enum-told-3 enum-known-last returns returns-2 returns-3 returns-4)

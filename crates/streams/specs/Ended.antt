@@ -1,0 +1,35 @@
+-- What is known of an input that was read and of a text that was handed over.
+-- Assumes nothing.
+use Prim.Native.Nat.{ℕ, _≤_}
+use mathlib.Core.Bool.{Bool, false}
+use mathlib.Core.List.{List}
+use lib.Dec.{eqb}
+use Rattle.io.specs.Counts.{Counts}
+use Rattle.streams.specs.declared.moved.Ended.{Ended}
+use Rattle.streams.specs.declared.moved.Ended.the-variants.{After, Failed}
+use Rattle.streams.specs.declared.sink.Text.{Text}
+use Rattle.streams.specs.declared.sink.Text.the-variants.{Output, Message}
+
+-- an input that was read stands at the front of the space; of one that a failure ended, nothing is said
+abbrev pub Filled : Ended → List ℕ → Type 0
+Filled (After count) space = Counts count space
+Filled (Failed number) space = Unit {0}
+
+-- what was taken is of what was handed over
+abbrev pub Taken : Ended → ℕ → Type 0
+Taken (After count) all = count ≤ all
+Taken (Failed number) all = Unit {0}
+
+-- only a text that was taken to its last byte is whole
+abbrev pub isWhole : Ended → ℕ → Bool
+isWhole (After count) all = eqb count all
+isWhole (Failed number) all = false
+
+abbrev pub Finished : Text → Ended → Type 0
+Finished (Output held) sent = Taken sent held
+Finished (Message held) sent = Taken sent held
+
+-- for standard error
+abbrev pub IsMessage : Text → Type 0
+IsMessage (Output held) = ⊥
+IsMessage (Message held) = Unit {0}
