@@ -10,6 +10,7 @@ use reader6250::Figures;
 use reader6250::Read;
 use streams::PAGE;
 use streams::Text;
+use streams::put;
 use writer6250::Written;
 ghost use mathlib.Core.Path.{_≡_};
 ghost use Prim.Native.Nat.{_*_, _≤_, min};
@@ -124,7 +125,7 @@ fn show_delivered(
             place,
         },
     );
-    print::legend(
+    put(
         page,
         end,
         b"marks: . as read, p pointed and right, c corrected, C pointed and corrected, i illegal and corrected\n",
@@ -161,7 +162,7 @@ fn show_refused(
             place,
         },
     );
-    print::legend(
+    put(
         page,
         end,
         b"marks: . as read, p pointed, i illegal, x refused\n",

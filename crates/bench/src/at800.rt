@@ -10,6 +10,7 @@ use reader800::Figures;
 use reader800::Read;
 use streams::PAGE;
 use streams::Text;
+use streams::put;
 use writer800::Written;
 ghost use mathlib.Core.Path.{_≡_};
 ghost use Prim.Native.Nat.{_+_, _/_, _≤_};
@@ -120,7 +121,7 @@ fn show_delivered(
             place,
         },
     );
-    print::legend(page, end, b"marks: . as read, c corrected\n")
+    put(page, end, b"marks: . as read, c corrected\n")
 }
 
 // A refusal: the answer, and the picture of what was read. One for a length or for space has none, since the
@@ -151,7 +152,7 @@ fn show_refused(
             place,
         },
     );
-    print::legend(page, end, b"marks: . as read, x refused\n")
+    put(page, end, b"marks: . as read, x refused\n")
 }
 
 // Reads the record and shows the answer, the data and the picture.

@@ -124,11 +124,6 @@ pub(crate) fn fault(page: &mut [u8; PAGE], parsed: Parsed) -> Text {
     Text::Message(cause(page, placed, fault, parsed.numbers))
 }
 
-// What the marks of the picture mean.
-pub(crate) fn legend(page: &mut [u8; PAGE], held: usize, line: &[u8]) -> usize {
-    put(page, held, line)
-}
-
 pub(crate) fn too_long(page: &mut [u8; PAGE]) -> Text {
     Text::Message(put(page, 0, b"the text is longer than 65535 bytes\n"))
 }

@@ -1,22 +1,37 @@
 // What is told of a read or a write that failed: the number of the error, and for the usual ones what it means.
 use crate::moved::Ended;
+use crate::moved::INTERRUPTED;
 use crate::page::PAGE;
 use crate::page::decimal;
 use crate::page::put;
 use crate::sink::Text;
 ghost use Rattle.streams.specs.Ended.{IsMessage};
 
+const DEVICE_FAILED: u32 = libc::EIO as u32;
+
+const NOT_OPEN: u32 = libc::EBADF as u32;
+
+const NOT_READY: u32 = libc::EAGAIN as u32;
+
+const DIRECTORY: u32 = libc::EISDIR as u32;
+
+const AT_LIMIT: u32 = libc::EFBIG as u32;
+
+const NO_SPACE: u32 = libc::ENOSPC as u32;
+
+const UNREAD: u32 = libc::EPIPE as u32;
+
 // What the number of an error means.
 fn meaning(page: &mut [u8; PAGE], held: usize, number: u32) -> usize {
     match number {
-        4 => put(page, held, b", interrupted too often"),
-        5 => put(page, held, b", the device failed"),
-        9 => put(page, held, b", it is closed"),
-        11 => put(page, held, b", it is not ready"),
-        21 => put(page, held, b", it is a directory"),
-        27 => put(page, held, b", the file is at its limit"),
-        28 => put(page, held, b", no space is left"),
-        32 => put(page, held, b", nobody reads it"),
+        INTERRUPTED => put(page, held, b", interrupted too often"),
+        DEVICE_FAILED => put(page, held, b", the device failed"),
+        NOT_OPEN => put(page, held, b", it is closed or open the other way"),
+        NOT_READY => put(page, held, b", it is not ready"),
+        DIRECTORY => put(page, held, b", it is a directory"),
+        AT_LIMIT => put(page, held, b", the file is at its limit"),
+        NO_SPACE => put(page, held, b", no space is left"),
+        UNREAD => put(page, held, b", nobody reads it"),
         _ => held,
     }
 }

@@ -11,10 +11,10 @@ pub(crate) enum Moved {
     Failed(u32),
 }
 
-// The number of the error that a signal makes.
-pub(crate) const INTERRUPTED: u32 = 4;
+// The error of a call that a signal interrupts.
+pub(crate) const INTERRUPTED: u32 = libc::EINTR as u32;
 
-// How often a call that signals interrupt is made again: a program has to end, and no run comes near it.
+// How often in a row a call that signals interrupt is made: a program has to end (D24).
 pub(crate) const TRIES: u32 = 1000000;
 
 // The number of an error, as errno holds it; none is below 0.
@@ -29,6 +29,7 @@ pub(crate) fn last_error() -> u32 {
     error_number(os::errno())
 }
 
+// What came of a call that failed with this error.
 fn failed(number: u32) -> Moved
     ensures { λ r. ⌜ r ≡ failedBy number ⌝ }
 {

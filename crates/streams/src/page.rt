@@ -1,7 +1,4 @@
 // A page: text that a program makes before it hands it over.
-ghost use mathlib.Core.Path.{_≡_};
-ghost use lib.ListN.{length};
-ghost use Rattle.io.specs.Digits.{digits, Fewest};
 ghost use Rattle.streams.specs.Page.{Printed, PrintedNumber};
 
 // How many bytes a page holds.
