@@ -27,22 +27,28 @@ static void read_and_print(const char *what, const uint16_t *words, rindthok_alg
 int main(void)
 {
     const uint8_t bytes[1] = {0x01};
-    uint16_t code[9] = {0}, head[9] = {0}, back[9] = {0};
+    /* two weak tracks, which the drive points at: physical 4 and 7, in bits 3 and 6, are algebraic 8 and 0 */
+    const rindthok_physical_map drive = {(1 << 3) | (1 << 6)};
     const rindthok_algebraic_map none = {0}, another = {1 << 3};
     rindthok_algebraic_map map = {0};
+    uint16_t code[9] = {0}, head[9] = {0}, back[9] = {0};
     size_t groups = 0, place = 0;
 
-    if (rindthok_write6250(bytes, 1, code, 9, &groups, &place) == 0)
-        printf("the byte 0x01 is written as %zu group\n", groups);
+    if (rindthok_write6250(bytes, 1, code, 9, &groups, &place) != 0)
+        return 1;
+    printf("the byte 0x01 is written as %zu group\n", groups);
     print_words("code order:", code);
-    if (rindthok_words_to_physical(code, 9, head, 9, &place) == 0)
-        print_words("head order:", head);
+    if (rindthok_words_to_physical(code, 9, head, 9, &place) != 0)
+        return 1;
+    print_words("head order:", head);
 
-    /* two weak tracks, which the drive points at: physical 4 and 7 are algebraic 8 and 0; words and map are moved */
+    /* what the drive gives is moved before it is read, the words and the map */
     head[3] = 825;
     head[6] = 825;
-    rindthok_words_to_algebraic(head, 9, back, 9, &place);
-    rindthok_map_to_algebraic(1 << 3 | 1 << 6, &map, &place);
+    if (rindthok_words_to_algebraic(head, 9, back, 9, &place) != 0)
+        return 1;
+    if (rindthok_map_to_algebraic(drive.physical, &map, &place) != 0)
+        return 1;
     print_words("two damaged:", back);
     read_and_print("with their pointers", back, map);
     read_and_print("with no pointer", back, none);

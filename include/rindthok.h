@@ -9,8 +9,8 @@
  * Two orders. The drive counts physical tracks, 1 to 9, and the code algebraic tracks, 0 to 8. Writers and readers
  * know code order only. What comes from the drive is moved first, by the four calls at the end: the words, and the
  * pointer maps as well. A map that is left in head order points at other tracks, and a damaged record may then be
- * delivered with false data, though every promise holds. So the maps of the two orders are two types, and to hand a
- * drive's map to a reader is an error of the compiler's.
+ * delivered with false data, though every promise holds. So the maps of the two orders are two types, and a drive's
+ * map that is handed to a reader does not compile.
  *
  * The caller passes valid pointers, each of which holds for the length beside it; what is written through one,
  * outputs and single numbers alike, overlaps nothing else that is passed. A pointer may be NULL where the length beside
@@ -23,11 +23,13 @@
  * backward reading is turned forward first, so its places count from the record's beginning.
  *
  * Stack, as measured on x86-64 from the call to the lowest byte touched: a read at 6250 takes 6,944 bytes forward and
- * 6,976 backward, a read at 800 at most 1,213, a write 136 at 6250 and 560 at 800, a call between the orders 8. The
- * calls allocate nothing and keep no state, so any number of threads may make them.
+ * 6,976 backward, a read at 800 at most 1,213, a write 136 at 6250 and 560 at 800, a call between the orders 8. Where
+ * the C library is bound lazily, the first call of its memcpy or memset runs the linker on the same stack, which takes some
+ * thousands of bytes more; link with -z now, or statically. The calls allocate nothing and keep no state, so any
+ * number of threads may make them.
  *
- * The programs beside the library end with status 0, always: a script tells a refusal by the first word of the output,
- * and a failure by standard error.
+ * The programs beside the library end with status 0, always, unless a signal ends them: a script tells a refusal by
+ * the first word of the output, and a failure by standard error.
  */
 #ifndef RINDTHOK_H
 #define RINDTHOK_H
@@ -61,10 +63,12 @@ typedef struct rindthok_algebraic_map {
     uint16_t algebraic;
 } rindthok_algebraic_map;
 
-/* An array of maps lies in memory as the numbers do. Older C compilers only warn where a pointer to another type is
- * passed, and take one map for the other; from here on they refuse it, as newer ones and C++ do. */
-#if defined(__GNUC__) && !defined(__cplusplus)
+/* An array of maps lies in memory as the numbers do. Older C compilers only warn where a pointer to another type, or a
+ * number, is passed for a pointer, and take one map for the other; from here on they refuse it, as C++ and newer ones do.
+ * An include between `diagnostic push` and `diagnostic pop` undoes this. */
+#if !defined(__cplusplus) && (defined(__clang__) || (defined(__GNUC__) && __GNUC__ >= 5))
 #pragma GCC diagnostic error "-Wincompatible-pointer-types"
+#pragma GCC diagnostic error "-Wint-conversion"
 #endif
 
 /* Writes a 6250 record: 0 to 4101 bytes as groups of nine words in code order, tracks 0 to 8 of each, at the front of
@@ -78,7 +82,8 @@ uint16_t rindthok_write6250(const uint8_t *bytes, size_t byte_count, uint16_t *w
  * word's ten bits are reversed; the answer is that of the forward reading, places too.
  * Refusals, from top to bottom: 1 if there are not nine words and one map for each of 1 to 586 groups; 2 if the
  * output has under 7 bytes a group, less 1; 3 if a word is above 1023 or a map above 511; 4 if a group has
- * three or more tracks pointed, 5 if no group of the code fits it, with the first such group as place; 6 if
+ * three or more tracks pointed, by its map or by an illegal word, 5 if no group of the code fits it, with the first such
+ * group as place; 6 if
  * the padding is not as a writer leaves it. `size`, `changes` and `output` are then as they were. */
 uint16_t rindthok_read6250_forward(const uint16_t *words, size_t word_count, const rindthok_algebraic_map *maps, size_t map_count, uint8_t *output, size_t output_space, size_t *size, size_t *changes, size_t *place);
 uint16_t rindthok_read6250_backward(const uint16_t *words, size_t word_count, const rindthok_algebraic_map *maps, size_t map_count, uint8_t *output, size_t output_space, size_t *size, size_t *changes, size_t *place);

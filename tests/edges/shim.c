@@ -1,5 +1,5 @@
 /* Stands in front of the C library's read, write and close, and fails as EDGES_SHIM says. Only the standard streams are
- * touched: how a program reads its arguments is not tried here. */
+ * touched. */
 #include <errno.h>
 #include <stdlib.h>
 #include <string.h>

@@ -25,53 +25,78 @@ static void stored(const char *what, size_t figure, size_t expected)
     }
 }
 
-static void at6250(void)
-{
-    const rindthok_algebraic_map map[1] = {{0}};
-    uint16_t words[9] = {0};
-    size_t groups = 7, size = 7, changes = 7;
+typedef uint16_t read6250(const uint16_t *, size_t, const rindthok_algebraic_map *, size_t, uint8_t *, size_t, size_t *,
+                          size_t *, size_t *);
+typedef uint16_t read800(const uint16_t *, size_t, uint8_t *, size_t, size_t *, size_t *, size_t *, size_t *);
+typedef uint16_t move(const uint16_t *, size_t, uint16_t *, size_t, size_t *);
 
-    due("no space", rindthok_write6250(NULL, 0, NULL, 0, &groups, &place), 2);
-    stored("no space", groups, 7);
-    due("no data", rindthok_write6250(NULL, 0, words, 9, &groups, &place), 0);
-    stored("no data", groups, 1);
-    stored("no data, P", words[8], 825);
-    due("nothing", rindthok_read6250_forward(NULL, 0, NULL, 0, NULL, 0, &size, &changes, &place), 1);
-    due("no map", rindthok_read6250_backward(words, 9, NULL, 0, NULL, 0, &size, &changes, &place), 1);
-    due("no output", rindthok_read6250_forward(words, 9, map, 1, NULL, 0, &size, &changes, &place), 2);
-    stored("no output", size, 7);
-    stored("no output", changes, 7);
+static void write6250(uint16_t *words)
+{
+    size_t groups = 7;
+
+    due("6250, no space", rindthok_write6250(NULL, 0, NULL, 0, &groups, &place), 2);
+    stored("6250, no space", groups, 7);
+    due("6250, no data", rindthok_write6250(NULL, 0, words, 9, &groups, &place), 0);
+    stored("6250, no data", groups, 1);
+    stored("6250, no data, P", words[8], 825);
 }
 
-static void at800(void)
+static void reads6250(read6250 *read, const uint16_t *words)
+{
+    const rindthok_algebraic_map map[1] = {{0}};
+    size_t size = 7, changes = 7;
+
+    due("6250, nothing", read(NULL, 0, NULL, 0, NULL, 0, &size, &changes, &place), 1);
+    due("6250, no words", read(NULL, 0, map, 1, NULL, 0, &size, &changes, &place), 1);
+    due("6250, no map", read(words, 9, NULL, 0, NULL, 0, &size, &changes, &place), 1);
+    due("6250, no output", read(words, 9, map, 1, NULL, 0, &size, &changes, &place), 2);
+    stored("6250", size, 7);
+    stored("6250", changes, 7);
+}
+
+static void write800(void)
 {
     const uint8_t byte[1] = {1};
     uint16_t characters[3] = {0};
-    size_t count = 7, size = 7, track = 7, changes = 7;
+    size_t count = 7;
 
-    due("no data", rindthok_write800(NULL, 0, characters, 3, &count, &place), 1);
-    due("no space", rindthok_write800(byte, 1, NULL, 0, &count, &place), 2);
-    stored("no space", count, 7);
-    due("nothing", rindthok_read800_forward(NULL, 0, NULL, 0, &size, &track, &changes, &place), 1);
-    due("no output", rindthok_read800_backward(characters, 3, NULL, 0, &size, &track, &changes, &place), 2);
-    stored("no output", size, 7);
-    stored("no output", track, 7);
-    stored("no output", changes, 7);
+    due("800, no data", rindthok_write800(NULL, 0, characters, 3, &count, &place), 1);
+    due("800, no space", rindthok_write800(byte, 1, NULL, 0, &count, &place), 2);
+    stored("800", count, 7);
 }
 
-static void between_orders(void)
+static void reads800(read800 *read)
+{
+    const uint16_t characters[3] = {0};
+    size_t size = 7, track = 7, changes = 7;
+
+    due("800, nothing", read(NULL, 0, NULL, 0, &size, &track, &changes, &place), 1);
+    due("800, no output", read(characters, 3, NULL, 0, &size, &track, &changes, &place), 2);
+    stored("800", size, 7);
+    stored("800", track, 7);
+    stored("800", changes, 7);
+}
+
+static void moves(move *moved)
 {
     uint16_t words[9] = {0};
 
-    due("no words", rindthok_words_to_physical(NULL, 0, words, 9, &place), 1);
-    due("no target", rindthok_words_to_algebraic(words, 9, NULL, 0, &place), 2);
+    due("order, no words", moved(NULL, 0, words, 9, &place), 1);
+    due("order, no target", moved(words, 9, NULL, 0, &place), 2);
 }
 
 int main(void)
 {
+    uint16_t words[9] = {0};
+
     place = 7;
-    at6250();
-    at800();
-    between_orders();
+    write6250(words);
+    reads6250(rindthok_read6250_forward, words);
+    reads6250(rindthok_read6250_backward, words);
+    write800();
+    reads800(rindthok_read800_forward);
+    reads800(rindthok_read800_backward);
+    moves(rindthok_words_to_physical);
+    moves(rindthok_words_to_algebraic);
     return failed;
 }

@@ -13,8 +13,7 @@ use streams::Ended;
 use streams::PAGE;
 use streams::Text;
 
-// What is made of the input: data, or the text of a reading. There is space for one byte more than the longest text, and
-// so for more than any record's data: what is too long is seen, and refused.
+// What is made of the input: data, or the text of a reading.
 fn done(page: &mut [u8; PAGE], request: Request, input: &[u8]) -> Text {
     match request {
         Request::Write6250 => at6250::write(page, input),
@@ -25,7 +24,8 @@ fn done(page: &mut [u8; PAGE], request: Request, input: &[u8]) -> Text {
     }
 }
 
-// What is made of standard input, which a wrong request leaves alone.
+// What is made of standard input, which a wrong request leaves alone. There is space for one byte more than the longest
+// text, and so for more than any record's data: what is too long is seen, and refused.
 fn answer(page: &mut [u8; PAGE], request: Request) -> Text {
     if let Request::Wrong = request {
         return print::usage(page);

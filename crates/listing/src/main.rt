@@ -7,54 +7,67 @@ use streams::Text;
 use streams::decimal;
 use streams::put;
 use writer6250::Written;
-ghost use Prim.Native.Nat.{_+_, _≤_};
+ghost use Prim.Native.Nat.{_+_, _*_, _≤_};
 ghost use lib.ListN.{length};
+ghost use Rattle.answer.specs.Answer.{numberOf};
+ghost use Rattle.streams.specs.Page.{Printed};
+ghost use Rattle.streams.specs.Ended.{Prints};
+ghost use Rattle.listing.specs.Listing.{wordText, groupText, recordText, refusalText, listingText, Listed};
 
-fn put_word(page: &mut [u8; PAGE], held: usize, word: u16) -> usize {
-    decimal(page, held, word as u64)
+// Puts word j of a line, a space in front of all but the first.
+fn put_word(page: &mut [u8; PAGE], held: usize, j: usize, word: u16) -> usize
+    ensures { λ r. ⌜ Printed (wordText j word) (now (page .entry)) held (now (page .exit)) r ⌝ }
+{
+    if j == 0 {
+        return decimal(page, held, word as u64);
+    }
+    let spaced = put(page, held, b" ");
+    decimal(page, spaced, word as u64)
 }
 
-// Puts the nine words from an index on, single spaces between them, and a newline.
+// Puts the nine words from an index on, and a newline.
 fn put_group(page: &mut [u8; PAGE], held: usize, words: &[u16], at: usize) -> usize
     requires { ⌜ at + 9 ≤ length (now words) ⌝ }
+    ensures { λ r. ⌜ Printed (groupText (now (words .entry)) at) (now (page .entry)) held (now (page .exit)) r ⌝ }
 {
-    let mut end = put_word(page, held, words[at]);
-    let mut j = 1;
+    let mut end = held;
+    let mut j = 0;
     while j < 9 {
-        end = put(page, end, b" ");
-        end = put_word(page, end, words[at + j]);
+        end = put_word(page, end, j, words[at + j]);
         j += 1;
     }
     put(page, end, b"\n")
 }
 
-// Puts the first groups, of which the words hold that many.
-fn put_groups(page: &mut [u8; PAGE], words: &[u16], groups: usize) -> usize {
+// Puts the first groups.
+fn put_groups(page: &mut [u8; PAGE], words: &[u16], groups: usize) -> usize
+    requires { ⌜ 9 * groups ≤ length (now words) ⌝ }
+    ensures { λ r. ⌜ Printed (recordText (now (words .entry)) groups) (now (page .entry)) 0 (now (page .exit)) r ⌝ }
+{
     let mut end = 0;
-    let mut at = 0;
-    let mut left = groups;
-    while left > 0 {
-        if words.len() - at < 9 {
-            break;
-        }
-        end = put_group(page, end, words, at);
-        at += 9;
-        left -= 1;
+    let mut g = 0;
+    while g < groups {
+        end = put_group(page, end, words, 9 * g);
+        g += 1;
     }
     end
 }
 
-fn put_refusal(page: &mut [u8; PAGE], refusal: Refusal) -> usize {
+fn put_refusal(page: &mut [u8; PAGE], refusal: Refusal) -> usize
+    ensures { λ r. ⌜ Printed (refusalText (numberOf (refusal .reason)) (refusal .place)) (now (page .entry)) 0 (now (page .exit)) r ⌝ }
+{
     let reason = refusal.reason;
     let begun = put(page, 0, b"refused ");
-    let numbered = put_word(page, begun, reason.number());
+    let numbered = decimal(page, begun, reason.number() as u64);
     let spaced = put(page, numbered, b" ");
     let placed = decimal(page, spaced, refusal.place as u64);
     put(page, placed, b"\n")
 }
 
 // The listing of data.
-fn listing(page: &mut [u8; PAGE], bytes: &[u8]) -> Text {
+fn listing(page: &mut [u8; PAGE], bytes: &[u8]) -> Text
+    ensures { λ r. ⌜ Prints (listingText (now (bytes .entry))) (now (page .entry)) (now (page .exit)) r ⌝ }
+{
     let mut words = [0u16; 5274];
     match writer6250::write(bytes, &mut words) {
         Written::Delivered(groups) => Text::Output(put_groups(page, &words, groups)),
@@ -63,7 +76,9 @@ fn listing(page: &mut [u8; PAGE], bytes: &[u8]) -> Text {
 }
 
 // The listing of the data on standard input.
-fn listed(page: &mut [u8; PAGE]) -> Text {
+fn listed(page: &mut [u8; PAGE]) -> Text
+    ensures { λ r. ⌜ Listed (now (page .entry)) (now (page .exit)) r ⌝ }
+{
     // One byte more than a record holds, so that longer data are seen and refused.
     let mut bytes = [0u8; 4102];
     match streams::read(&mut bytes) {

@@ -9,8 +9,8 @@ use lib.Seq.{length-take-le}
 use Rattle.io.specs.Counts.{Counts}
 use Rattle.streams.specs.Moved.{Within, endedBy}
 use Rattle.streams.specs.Ended.{Filled, Taken}
-use Rattle.streams.specs.declared.moved.Ended.{Ended}
-use Rattle.streams.specs.declared.moved.Ended.the-variants.{After}
+use Rattle.streams.specs.declared.Ended.{Ended}
+use Rattle.streams.specs.declared.Ended.the-variants.{After}
 use Rattle.streams.specs.declared.moved.Moved.{Moved}
 use Rattle.streams.specs.declared.moved.Moved.the-variants.{Bytes, Nothing, Interrupted, Failed}
 

@@ -5,10 +5,11 @@ use mathlib.Core.Bool.{Bool, false}
 use mathlib.Core.List.{List}
 use lib.Dec.{eqb}
 use Rattle.io.specs.Counts.{Counts}
-use Rattle.streams.specs.declared.moved.Ended.{Ended}
-use Rattle.streams.specs.declared.moved.Ended.the-variants.{After, Failed}
-use Rattle.streams.specs.declared.sink.Text.{Text}
-use Rattle.streams.specs.declared.sink.Text.the-variants.{Output, Message}
+use Rattle.streams.specs.declared.Ended.{Ended}
+use Rattle.streams.specs.declared.Ended.the-variants.{After, Failed}
+use Rattle.streams.specs.Page.{Printed}
+use Rattle.streams.specs.declared.Text.{Text}
+use Rattle.streams.specs.declared.Text.the-variants.{Output, Message}
 
 -- an input that was read stands at the front of the space; of one that a failure ended, nothing is said
 abbrev pub Filled : Ended → List ℕ → Type 0
@@ -33,3 +34,8 @@ Finished (Message held) sent = Taken sent held
 abbrev pub IsMessage : Text → Type 0
 IsMessage (Output held) = ⊥
 IsMessage (Message held) = Unit {0}
+
+-- a text that was put on a page, for standard output
+abbrev pub Prints : List ℕ → List ℕ → List ℕ → Text → Type 0
+Prints text page page' (Output held) = Printed text page 0 page' held
+Prints text page page' (Message held) = ⊥

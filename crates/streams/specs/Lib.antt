@@ -1,3 +1,4 @@
 pub mod Moved
 pub mod Ended
+pub mod Ascii
 pub mod Page

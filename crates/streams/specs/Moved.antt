@@ -6,8 +6,8 @@ use lib.Dec.{eqb}
 use lib.IntN.{ℤ, pos, negsuc}
 use Rattle.streams.specs.declared.moved.Moved.{Moved}
 use Rattle.streams.specs.declared.moved.Moved.the-variants.{Bytes, Nothing, Interrupted, Failed}
-use Rattle.streams.specs.declared.moved.Ended.{Ended}
-use Rattle.streams.specs.declared.moved.Ended.the-variants.{After, Failed as Broken}
+use Rattle.streams.specs.declared.Ended.{Ended}
+use Rattle.streams.specs.declared.Ended.the-variants.{After, Failed as Broken}
 
 -- errors have numbers above 0
 abbrev pub errorNumber : ℤ → ℕ
@@ -40,7 +40,8 @@ Within Nothing space = Unit {0}
 Within Interrupted space = Unit {0}
 Within (Failed number) space = Unit {0}
 
--- how it ended once so many bytes were moved and the last call moved none: only a call that moves nothing, and says so, is no failure
+-- how it ended, once so many bytes were moved and the last call moved no more: only a call that moves nothing, and says so, is no
+-- failure (one that moves bytes is never the last)
 abbrev pub endedBy : ℕ → Moved → Ended
 endedBy count (Bytes n) = After count
 endedBy count Nothing = After count

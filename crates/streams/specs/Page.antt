@@ -1,28 +1,39 @@
 -- What a page holds.
 -- Assumes nothing.
-use Prim.Native.Nat.{ℕ, _+_, _≤_}
+use Prim.Native.Nat.{ℕ, suc, _+_, _^_, _≤_, max}
 use mathlib.Core.Path.{_≡_}
 use mathlib.Core.Bool.{cond}
 use mathlib.Core.List.{List}
-use lib.Dec.{leb}
+use lib.Dec.{leb, ltb}
 use lib.ListN.{length}
 use lib.Seq.{sets}
-use Rattle.io.specs.Digits.{digits, Fewest}
+use Rattle.io.specs.Digits.{digits}
+use Rattle.indexed.specs.List.{firstBelow}
 
 -- how many bytes a page holds
 abbrev pub pageSize : ℕ
 pageSize = 65536
 
--- how many bytes are held once so many more came: a text that does not fit is held as one more than a page
+-- how many bytes are held once so many more came: once a text did not fit, more than a page is held, whatever comes behind it
 abbrev pub heldAfter : ℕ → ℕ → ℕ
-heldAfter held count = cond (leb (held + count) pageSize) (held + count) (pageSize + 1)
+heldAfter held count = cond (leb (held + count) pageSize) (held + count) (max held (pageSize + 1))
 
 -- A text is put on a page behind the bytes that are held: the page and how many bytes are held, before and after. Where the
 -- text does not fit, so much is held that nothing of the page is handed over.
-abbrev pub Printed : List ℕ → List ℕ → ℕ → List ℕ → ℕ → Type 0
-Printed text page held page' held' = (held' ≡ heldAfter held (length text)) × (held + length text ≤ pageSize → page' ≡ sets page held text)
+pub record Printed (text page : List ℕ) (held : ℕ) (page' : List ℕ) (held' : ℕ) : Type 0 where
+  pub count : held' ≡ heldAfter held (length text)
+  pub stored : held + length text ≤ pageSize → page' ≡ sets page held text
 
--- the same of a number: its digits in a base, and no fewer of them than the least
-abbrev pub PrintedNumber : ℕ → ℕ → ℕ → List ℕ → ℕ → List ℕ → ℕ → Type 0
-PrintedNumber base least number page held page' held' =
-    (count : ℕ) × Fewest base least number count × Printed (digits base count number) page held page' held'
+-- how many digits a number has in a base, and no fewer than the least; one of 64 bits has 20 at most
+unfoldable pub places : ℕ → ℕ → ℕ → ℕ
+places base least n = max least (firstBelow 20 (λ k. ltb n (base ^ suc k)) + 1)
+
+-- a number in a base
+unfoldable pub numeral : ℕ → ℕ → ℕ → List ℕ
+numeral base least n = digits base (places base least n) n
+
+abbrev pub decimalText : ℕ → List ℕ
+decimalText = numeral 10 1
+
+abbrev pub hexadecimalText : ℕ → List ℕ
+hexadecimalText = numeral 16 2

@@ -8,11 +8,21 @@ mod sink;
 mod source;
 
 pub use message::unread;
-pub use moved::Ended;
 pub use page::PAGE;
 pub use page::decimal;
 pub use page::hexadecimal;
 pub use page::put;
-pub use sink::Text;
 pub use sink::finish;
 pub use source::read;
+
+// How reading or writing ended: after so many bytes, or in an error, with its number.
+pub enum Ended {
+    After(usize),
+    Failed(u32),
+}
+
+// What a program has on its page, so many bytes: its output, or a message for standard error.
+pub enum Text {
+    Output(usize),
+    Message(usize),
+}

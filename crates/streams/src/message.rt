@@ -1,10 +1,10 @@
 // What is told of a read or a write that failed: the number of the error, and for the usual ones what it means.
-use crate::moved::Ended;
+use crate::Ended;
+use crate::Text;
 use crate::moved::INTERRUPTED;
 use crate::page::PAGE;
 use crate::page::decimal;
 use crate::page::put;
-use crate::sink::Text;
 ghost use Rattle.streams.specs.Ended.{IsMessage};
 
 const DEVICE_FAILED: u32 = libc::EIO as u32;
@@ -19,19 +19,19 @@ const AT_LIMIT: u32 = libc::EFBIG as u32;
 
 const NO_SPACE: u32 = libc::ENOSPC as u32;
 
-const UNREAD: u32 = libc::EPIPE as u32;
+const NO_READER: u32 = libc::EPIPE as u32;
 
 // What the number of an error means.
 fn meaning(page: &mut [u8; PAGE], held: usize, number: u32) -> usize {
     match number {
-        INTERRUPTED => put(page, held, b", interrupted too often"),
+        INTERRUPTED => put(page, held, b", interrupted"),
         DEVICE_FAILED => put(page, held, b", the device failed"),
         NOT_OPEN => put(page, held, b", it is closed or open the other way"),
         NOT_READY => put(page, held, b", it is not ready"),
         DIRECTORY => put(page, held, b", it is a directory"),
         AT_LIMIT => put(page, held, b", the file is at its limit"),
         NO_SPACE => put(page, held, b", no space is left"),
-        UNREAD => put(page, held, b", nobody reads it"),
+        NO_READER => put(page, held, b", nobody reads it"),
         _ => held,
     }
 }

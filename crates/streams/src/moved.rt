@@ -1,4 +1,5 @@
 // What came of one call of C's `read` or `write`.
+use crate::Ended;
 ghost use mathlib.Core.Path.{_≡_};
 ghost use Rattle.streams.specs.Moved.{errorNumber, failedBy, movedBy, isInterrupted, endedBy};
 
@@ -63,13 +64,8 @@ pub(crate) fn is_interrupted(moved: Moved) -> bool
     }
 }
 
-// How reading or writing ended: after so many bytes, or in an error, with its number.
-pub enum Ended {
-    After(usize),
-    Failed(u32),
-}
-
-// The end, once so many bytes were moved and the last call moved none: only a call that says so is no failure.
+// The end, once so many bytes were moved and the last call moved no more: only a call that moved nothing, and says so,
+// is no failure. One that moves bytes is never the last.
 pub(crate) fn end(count: usize, last: Moved) -> Ended
     ensures { λ r. ⌜ r ≡ endedBy count last ⌝ }
 {

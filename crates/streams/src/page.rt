@@ -1,9 +1,9 @@
 // A page: text that a program makes before it hands it over.
-ghost use Rattle.streams.specs.Page.{Printed, PrintedNumber};
+ghost use Rattle.streams.specs.Page.{Printed, decimalText, hexadecimalText};
 
 // How many bytes a page holds.
 pub const PAGE: usize = 65536;
-// What is held once a text did not fit: no page holds so much, and nothing is put behind it.
+// What is held once a text did not fit: more than a page, of which nothing is handed over.
 const TOO_MUCH: usize = 65537;
 
 // Puts bytes behind those that are held, and tells how many are held then.
@@ -11,7 +11,7 @@ pub fn put(page: &mut [u8; PAGE], held: usize, bytes: &[u8]) -> usize
     ensures { λ r. ⌜ Printed (now (bytes .entry)) (now (page .entry)) held (now (page .exit)) r ⌝ }
 {
     if held > PAGE {
-        return TOO_MUCH;
+        return held;
     }
     if bytes.len() > PAGE - held {
         return TOO_MUCH;
@@ -26,7 +26,7 @@ pub fn put(page: &mut [u8; PAGE], held: usize, bytes: &[u8]) -> usize
 
 // Puts a number's decimal digits.
 pub fn decimal(page: &mut [u8; PAGE], held: usize, number: u64) -> usize
-    ensures { λ r. ⌜ PrintedNumber 10 1 number (now (page .entry)) held (now (page .exit)) r ⌝ }
+    ensures { λ r. ⌜ Printed (decimalText number) (now (page .entry)) held (now (page .exit)) r ⌝ }
 {
     let mut text = [0u8; 20];
     let count = io::decimal(number, &mut text);
@@ -35,7 +35,7 @@ pub fn decimal(page: &mut [u8; PAGE], held: usize, number: u64) -> usize
 
 // Puts a number's hexadecimal digits, two at least.
 pub fn hexadecimal(page: &mut [u8; PAGE], held: usize, number: u64) -> usize
-    ensures { λ r. ⌜ PrintedNumber 16 2 number (now (page .entry)) held (now (page .exit)) r ⌝ }
+    ensures { λ r. ⌜ Printed (hexadecimalText number) (now (page .entry)) held (now (page .exit)) r ⌝ }
 {
     let mut text = [0u8; 16];
     let count = io::hex(number, 2, &mut text);

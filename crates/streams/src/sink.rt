@@ -1,6 +1,7 @@
 // Standard output and standard error: what a program has on its page is handed over.
+use crate::Ended;
+use crate::Text;
 use crate::message::unwritten;
-use crate::moved::Ended;
 use crate::moved::Moved;
 use crate::moved::TRIES;
 use crate::moved::end;
@@ -15,12 +16,6 @@ ghost use mathlib.Core.Path.{_≡_};
 ghost use lib.ListN.{length};
 ghost use Rattle.streams.specs.Moved.{Within};
 ghost use Rattle.streams.specs.Ended.{Taken, isWhole, Finished};
-
-// What a program has on its page, so many bytes: its output, or a message for standard error.
-pub enum Text {
-    Output(usize),
-    Message(usize),
-}
 
 // One write, made again where a signal came first.
 fn write_some(fd: i32, bytes: &[u8]) -> Moved

@@ -1,5 +1,5 @@
 // Standard input, read to its end.
-use crate::moved::Ended;
+use crate::Ended;
 use crate::moved::Moved;
 use crate::moved::TRIES;
 use crate::moved::end;

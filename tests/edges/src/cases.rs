@@ -17,7 +17,6 @@ pub const ALL: &[Case] = &[
     ("a directory", &[Directory], Nothing, Unread(21)),
     ("closed input", &[Closed(0)], Nothing, Unread(9)),
     ("half is late, not awaited", &[Hasty], Nothing, Unread(11)),
-    ("half is never an answer", &[Hasty], AllOrNothing, Anything),
     ("half is late, awaited", &[Late], All, Silence),
     // the shim lets 10 bytes through before a read fails, and 100 before a write does
     ("EIO of read", &[Shim("read")], Nothing, Unread(5)),
@@ -25,6 +24,7 @@ pub const ALL: &[Case] = &[
     ("EIO of close", &[Shim("close")], All, Unwritten(5)),
     ("no space", &[Full], Nothing, Unwritten(28)),
     ("closed output", &[Closed(1)], Nothing, Unwritten(9)),
+    ("no reader", &[Unheard], Nothing, Unwritten(32)),
     ("a file", &[Limit(1 << 20)], All, Silence),
     ("a file limit", &[Limit(LIMIT)], First(LIMIT), Cut),
     ("a mild file limit", &[MildLimit(LIMIT)], First(LIMIT), Cut),

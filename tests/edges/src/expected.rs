@@ -7,7 +7,6 @@ use crate::run::Ran;
 pub enum Written {
     All,
     Nothing,
-    AllOrNothing,
     First(usize),
 }
 
@@ -16,7 +15,6 @@ pub enum Written {
 #[derive(Clone, Copy)]
 pub enum Said {
     Silence,
-    Anything,
     Unread(u32),
     Unwritten(u32),
     Cut,
@@ -27,7 +25,6 @@ impl Written {
         match self {
             Written::All => output == good,
             Written::Nothing => output.is_empty(),
-            Written::AllOrNothing => output.is_empty() || output == good,
             Written::First(count) => good.get(..count) == Some(output),
         }
     }
@@ -38,7 +35,7 @@ impl Said {
     fn start(self, count: usize, whole: usize) -> String {
         let unwritten = "cannot write standard output:";
         match self {
-            Said::Silence | Said::Anything => String::new(),
+            Said::Silence => String::new(),
             Said::Unread(error) => format!("cannot read standard input: error {error}"),
             Said::Unwritten(error) => format!("{unwritten} error {error}"),
             Said::Cut => format!("{unwritten} cut behind {count} of {whole} bytes"),
@@ -52,7 +49,6 @@ impl Said {
         let digit = |next: char| next.is_ascii_digit();
         match self {
             Said::Silence => said.is_empty(),
-            Said::Anything => true,
             Said::Unread(_) => rest.is_some_and(|rest| rest.is_empty() || rest.starts_with(", ")),
             Said::Unwritten(_) | Said::Cut => rest.is_some_and(|rest| !rest.starts_with(digit)),
         }

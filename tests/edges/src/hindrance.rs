@@ -13,10 +13,12 @@ pub enum Hindrance {
     Directory,
     /// The second half of the input comes late.
     Late,
-    /// It comes late, and a read does not wait for it.
+    /// It comes when the program has ended, and a read does not wait for it.
     Hasty,
     /// Standard output is the device that has no space.
     Full,
+    /// Standard output is a pipe that nobody reads, and the signal of that is ignored.
+    Unheard,
     /// Standard output is a socket that keeps write calls apart.
     Packets,
     /// Standard output is a file of so many bytes at most, and a write behind them kills.
@@ -35,10 +37,6 @@ pub type Setting = &'static [Hindrance];
 
 /// The regular file that is written.
 pub const FILE: &str = "target/edges/output";
-
-pub fn is_late(setting: Setting) -> bool {
-    setting.contains(&Late) || setting.contains(&Hasty)
-}
 
 pub fn is_limited(setting: Setting) -> bool {
     let limit = |hindrance: &Hindrance| matches!(hindrance, Limit(_) | MildLimit(_));
@@ -69,6 +67,9 @@ pub fn sink(setting: Setting) -> (Stdio, Option<File>) {
         return (writer.into(), Some(reader.into()));
     }
     let (reader, writer) = pipe().unwrap();
+    if setting.contains(&Unheard) {
+        return (writer.into(), None);
+    }
     (writer.into(), Some(OwnedFd::from(reader).into()))
 }
 
@@ -80,6 +81,7 @@ pub fn prepare(setting: Setting) -> Result<()> {
     for &hindrance in setting {
         match hindrance {
             Hasty => posix::never_wait(0)?,
+            Unheard => posix::ignore_no_reader(),
             Limit(bytes) => posix::limit_files(bytes)?,
             MildLimit(bytes) => {
                 posix::ignore_file_limit(true);

@@ -17,6 +17,7 @@ extern "C" {
 const F_SETFL: c_int = 4;
 const O_NONBLOCK: c_int = 0o4000;
 const RLIMIT_FSIZE: c_int = 1;
+const SIGPIPE: c_int = 13;
 const SIGXFSZ: c_int = 25;
 const SIG_DFL: usize = 0;
 const SIG_IGN: usize = 1;
@@ -41,6 +42,10 @@ pub fn end_within(seconds: c_uint) {
 /// Whether the signal of a file limit is ignored, or has its default action, which kills.
 pub fn ignore_file_limit(ignored: bool) {
     unsafe { signal(SIGXFSZ, if ignored { SIG_IGN } else { SIG_DFL }) };
+}
+
+pub fn ignore_no_reader() {
+    unsafe { signal(SIGPIPE, SIG_IGN) };
 }
 
 pub fn limit_files(bytes: usize) -> Result<()> {

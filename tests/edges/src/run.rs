@@ -1,6 +1,6 @@
 //! One run of a program.
 
-use crate::hindrance::{self, Hindrance::Shim, Setting};
+use crate::hindrance::{self, Hindrance::*, Setting};
 use std::fs::{self, File};
 use std::io::{Read, Write};
 use std::os::unix::process::CommandExt;
@@ -47,8 +47,13 @@ fn drained(mut reader: File) -> (Vec<u8>, usize) {
 }
 
 pub fn run(line: &str, bytes: &[u8], setting: Setting) -> Ran {
-    let late = hindrance::is_late(setting);
-    let (first, rest) = bytes.split_at(if late { bytes.len() / 2 } else { bytes.len() });
+    let (late, hasty) = (setting.contains(&Late), setting.contains(&Hasty));
+    let there = if late || hasty {
+        bytes.len() / 2
+    } else {
+        bytes.len()
+    };
+    let (first, rest) = bytes.split_at(there);
     let (input, mut writer) = hindrance::source(setting, first);
     let (output, reader) = hindrance::sink(setting);
     let mut command = command(line, setting);
@@ -58,11 +63,12 @@ pub fn run(line: &str, bytes: &[u8], setting: Setting) -> Ran {
     drop(command);
     if late {
         std::thread::sleep(Duration::from_millis(300));
-        // a program that has given up reads no more, and then this write fails, which is no fault
-        let _ = writer.write_all(rest);
+        writer.write_all(rest).unwrap();
     }
-    drop(writer);
+    // a program that does not wait ends while this end of its input is still open
+    let open = hasty.then(|| writer);
     let (mut output, pieces) = reader.map(drained).unwrap_or_default();
+    drop(open);
     let ended = child.wait_with_output().unwrap();
     if hindrance::is_limited(setting) {
         output = fs::read(hindrance::FILE).unwrap();

@@ -1,7 +1,9 @@
--- `listing::listed` is safe: what was read is within the bytes.
+-- `listing::listed` meets its contract: what was read is within the bytes, and their listing or a message is put.
 -- Assumes nothing.
 use borrow.Author.Needs.{needs}
+use lib.ListN.{take}
 use Rattle.streams.proofs.Progress.{read-whole}
+use Rattle.listing.proofs.Answers.{listed-text, listed-message}
 use Rattle.listing.proofs.listed.Statement.{statement}
 use Rattle.listing.proofs.listed.Tie as tie
 
@@ -34,10 +36,13 @@ unread-requires : tie.Need-unread-requires
 unread-requires c κs = search needs
 
 returns : tie.Need-returns
-returns c = search needs
+returns c =
+    let count = c .before .before .before .before in
+    let bytes = take (count .count .given .0 .0) (count .before .before .before .read .last .0) in
+    listed-text _ _ bytes (c .listing .result) (c .listing .ensures)
 
 returns-2 : tie.Need-returns-2
-returns-2 c = search needs
+returns-2 c = listed-message _ _ (c .unread .result) (c .unread .ensures)
 
 pub listed-spec : {M : Type 1} → statement M
 listed-spec =

@@ -1,15 +1,26 @@
--- `listing::put_group` is safe: the nine words are within the slice.
+-- `listing::put_group` meets its contract. The loop's invariant: the first j words are put.
 -- Assumes nothing.
 use Prim.Native.Nat.{_-_, _≤_}
+use mathlib.Core.Path.{_≡_}
+use native.Mathlib.Omega.{arith}
+use Rattle.streams.specs.Page.{Printed}
+use Rattle.listing.specs.Listing.{wordsText}
+use Rattle.listing.proofs.Lines.{words-none, words-more, words-all}
 use borrow.Author.Needs.{needs}
 use Rattle.listing.proofs.put_group.Statement.{statement}
 use Rattle.listing.proofs.put_group.Tie as tie
 
 abbrev Inv-loop : tie.InvT-loop
-Inv-loop page₀ held words at end₀ j₀ t7 t8 page end j = j ≤ 9
+Inv-loop page₀ held words at end₀ j₀ t7 page end j = (j ≤ 9) × Printed (wordsText words at j) page₀ held page end
 
 abbrev μ-loop : tie.MeasureT-loop
-μ-loop page₀ held words at end₀ j₀ t7 t8 page end j = 9 - j
+μ-loop page₀ held words at end₀ j₀ t7 page end j = 9 - j
+
+loop-holds : tie.Need-loop-holds Inv-loop μ-loop
+loop-holds c = let args = c .before .args in (omega arith, words-none (args .words .now) (args .at) _ _)
+
+add-put-word : tie.Need-add-put-word Inv-loop μ-loop
+add-put-word c = search needs
 
 mul-put-word : tie.Need-mul-put-word Inv-loop μ-loop
 mul-put-word c = search needs
@@ -20,27 +31,6 @@ shared-slice-read-put-word c = search needs
 put-word-requires : tie.Need-put-word-requires Inv-loop μ-loop
 put-word-requires c κs = search needs
 
-loop-holds : tie.Need-loop-holds Inv-loop μ-loop
-loop-holds c = search needs
-
-slice-aggregate-put : tie.Need-slice-aggregate-put Inv-loop μ-loop
-slice-aggregate-put c = search needs
-
-put-requires : tie.Need-put-requires Inv-loop μ-loop
-put-requires c κs = search needs
-
-add-put-word : tie.Need-add-put-word Inv-loop μ-loop
-add-put-word c = search needs
-
-mul-put-word-2 : tie.Need-mul-put-word-2 Inv-loop μ-loop
-mul-put-word-2 c = search needs
-
-shared-slice-read-put-word-2 : tie.Need-shared-slice-read-put-word-2 Inv-loop μ-loop
-shared-slice-read-put-word-2 c = search needs
-
-put-word-requires-2 : tie.Need-put-word-requires-2 Inv-loop μ-loop
-put-word-requires-2 c κs = search needs
-
 add-j : tie.Need-add-j Inv-loop μ-loop
 add-j c = search needs
 
@@ -48,16 +38,24 @@ loop-less : tie.Need-loop-less Inv-loop μ-loop
 loop-less c = search needs
 
 loop-again : tie.Need-loop-again Inv-loop μ-loop
-loop-again c = search needs
+loop-again c =
+    let at = c .before .before .before .before in
+    let l = at .loop in
+    let args = at .before .before .args in (omega arith, words-more (args .words .now) (args .at) (l .j) (l .inv .1) (c .put-word .ensures))
 
-slice-aggregate-put-2 : tie.Need-slice-aggregate-put-2 Inv-loop μ-loop
-slice-aggregate-put-2 c = search needs
+slice-aggregate-put : tie.Need-slice-aggregate-put Inv-loop μ-loop
+slice-aggregate-put c = search needs
 
-put-requires-2 : tie.Need-put-requires-2 Inv-loop μ-loop
-put-requires-2 c κs = search needs
+put-requires : tie.Need-put-requires Inv-loop μ-loop
+put-requires c κs = search needs
 
 returns : tie.Need-returns Inv-loop μ-loop
-returns c = search needs
+returns c =
+    let at = c .before .before .before .before in
+    let l = at .loop in
+    let args = at .before .before .args in
+    let all : l .j ≡ 9 = omega (arith, l .inv .0) in
+    words-all (args .words .now) (args .at) (l .j) all (l .inv .1) (c .put .ensures)
 
 pub put-group-spec : {M : Type 1} → statement M
 put-group-spec =
@@ -65,19 +63,14 @@ put-group-spec =
     (tie.spec
     Inv-loop
     μ-loop
+    loop-holds
+    add-put-word
     mul-put-word
     shared-slice-read-put-word
     put-word-requires
-    loop-holds
-    slice-aggregate-put
-    put-requires
-    add-put-word
-    mul-put-word-2
-    shared-slice-read-put-word-2
-    put-word-requires-2
     add-j
     loop-less
     loop-again
-    slice-aggregate-put-2
-    put-requires-2
+    slice-aggregate-put
+    put-requires
     returns)

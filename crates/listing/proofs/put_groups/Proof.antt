@@ -1,43 +1,49 @@
--- `listing::put_groups` is safe: the index stays within the words, and fewer groups are left at each turn.
+-- `listing::put_groups` meets its contract. The loop's invariant: the first g groups are put.
 -- Assumes nothing.
-use Prim.Native.Nat.{_≤_}
+use Prim.Native.Nat.{ℕ, _-_, _≤_}
+use mathlib.Core.Path.{_≡_, subst}
+use native.Mathlib.Omega.{arith}
+use Rattle.streams.specs.Page.{Printed}
+use Rattle.listing.specs.Listing.{recordText}
+use Rattle.listing.proofs.Lines.{groups-none, groups-more}
 use borrow.Author.Needs.{needs}
-use lib.ListN.{length}
 use Rattle.listing.proofs.put_groups.Statement.{statement}
 use Rattle.listing.proofs.put_groups.Tie as tie
 
 abbrev Inv-loop : tie.InvT-loop
-Inv-loop page₀ words groups end₀ at₀ left₀ page end at left = at ≤ length words
+Inv-loop page₀ words groups end₀ g₀ page end g = (g ≤ groups) × Printed (recordText words g) page₀ 0 page end
 
 abbrev μ-loop : tie.MeasureT-loop
-μ-loop page₀ words groups end₀ at₀ left₀ page end at left = left
+μ-loop page₀ words groups end₀ g₀ page end g = groups - g
 
 loop-holds : tie.Need-loop-holds Inv-loop μ-loop
-loop-holds c = search needs
+loop-holds c = (omega arith, groups-none (c .before .args .words .now) _ _)
 
-sub-if1 : tie.Need-sub-if1 Inv-loop μ-loop
-sub-if1 c = search needs
+mul-put-group : tie.Need-mul-put-group Inv-loop μ-loop
+mul-put-group c = search needs
 
 put-group-requires : tie.Need-put-group-requires Inv-loop μ-loop
 put-group-requires c κs = search needs
 
-add-at : tie.Need-add-at Inv-loop μ-loop
-add-at c = search needs
-
-sub-left : tie.Need-sub-left Inv-loop μ-loop
-sub-left c = search needs
+add-g : tie.Need-add-g Inv-loop μ-loop
+add-g c = search needs
 
 loop-less : tie.Need-loop-less Inv-loop μ-loop
 loop-less c = search needs
 
 loop-again : tie.Need-loop-again Inv-loop μ-loop
-loop-again c = search needs
+loop-again c =
+    let at = c .before .before .before in
+    let l = at .loop in
+    let words = at .before .before .args .words .now in (omega arith, groups-more words (l .g) (l .inv .1) (c .put-group .ensures))
 
 returns : tie.Need-returns Inv-loop μ-loop
-returns c = search needs
-
-returns-2 : tie.Need-returns-2 Inv-loop μ-loop
-returns-2 c = search needs
+returns c =
+    let at = c .before in
+    let l = at .loop in
+    let args = at .before .before .args in
+    let all : l .g ≡ args .groups = omega (arith, l .inv .0) in
+    subst (λ (n : ℕ). Printed (recordText (args .words .now) n) (args .page .now) 0 (l .page) (l .end)) all (l .inv .1)
 
 pub put-groups-spec : {M : Type 1} → statement M
 put-groups-spec =
@@ -46,11 +52,9 @@ put-groups-spec =
     Inv-loop
     μ-loop
     loop-holds
-    sub-if1
+    mul-put-group
     put-group-requires
-    add-at
-    sub-left
+    add-g
     loop-less
     loop-again
-    returns
-    returns-2)
+    returns)

@@ -1,7 +1,10 @@
 -- `streams::page::decimal` meets its contract: the digits are those of `io::decimal`.
 -- Assumes nothing.
-use mathlib.Core.Path.{sym}
+use Prim.Native.Nat.{_^_, _<_}
+use mathlib.Core.Path.{sym, _∙_}
+use native.Mathlib.Omega.{arith}
 use borrow.Author.Needs.{needs}
+use Rattle.streams.proofs.Printed.{digits-numeral}
 use Rattle.streams.proofs.page.decimal.Statement.{statement}
 use Rattle.streams.proofs.page.decimal.Tie as tie
 
@@ -19,7 +22,10 @@ put-requires c κs = search needs
 
 returns : tie.Need-returns
 returns c =
-    let d = c .before .before .before .decimal in (d .result, d .ensures .1 .0, rw (sym (d .ensures .1 .1)) (c .put .ensures))
+    let start = c .before .before .before .before .before in
+    let d = c .before .before .before .decimal in
+    let small : start .args .number < 10 ^ 20 = omega (arith, start .fits .number .fits) in
+    rw (sym (d .ensures .1 .1 ∙ digits-numeral 10 1 _ _ (omega arith) (omega arith) (omega arith) small (d .ensures .1 .0))) (c .put .ensures)
 
 pub decimal-spec : {M : Type 1} → statement M
 decimal-spec =

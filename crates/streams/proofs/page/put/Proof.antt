@@ -19,11 +19,11 @@ abbrev μ-loop : tie.MeasureT-loop
 
 returns : tie.Need-returns Inv-loop μ-loop
 returns c =
-    let args = c .before .args in not-printed (args .bytes .now) (args .page .now) (args .page .now) (args .held) (omega arith)
+    let args = c .before .args in not-printed (args .bytes .now) (args .page .now) (args .page .now) (args .held) (args .held) (omega arith) (omega arith)
 
 returns-2 : tie.Need-returns-2 Inv-loop μ-loop
 returns-2 c =
-    let args = c .before .before .args in not-printed (args .bytes .now) (args .page .now) (args .page .now) (args .held) (omega arith)
+    let args = c .before .before .args in not-printed (args .bytes .now) (args .page .now) (args .page .now) (args .held) 65537 (omega arith) (omega arith)
 
 loop-holds : tie.Need-loop-holds Inv-loop μ-loop
 loop-holds c = (omega arith, omega arith, refl)
