@@ -14,7 +14,8 @@ use Rattle.record6250.proofs.Record.{length-record}
 use Rattle.writer6250.specs.Written.{toldWritten}
 use Rattle.writer6250.specs.declared.Written.{Written}
 use Rattle.writer6250.specs.declared.Written.the-variants.{Delivered, Refused}
-use Rattle.streams.specs.Ended.{Prints, IsMessage}
+use Rattle.streams.specs.Message.{unreadText}
+use Rattle.streams.specs.Ended.{Prints, Tells}
 use Rattle.streams.specs.declared.Text.{Text}
 use Rattle.streams.specs.declared.Text.the-variants.{Output, Message}
 use Rattle.listing.specs.Listing.{recordText, refusalText, answerText, listingText, Listed}
@@ -47,6 +48,6 @@ module _ (page page' : List ℕ) where
   listed-text bytes (Output held) h = (bytes, h)
   listed-text bytes (Message held) h = absurd h
 
-  pub listed-message : (r : Text) → IsMessage r → Listed page page' r
-  listed-message (Output held) h = absurd h
-  listed-message (Message held) h = tt
+  pub listed-message : (number : ℕ) (r : Text) → Tells (unreadText number) page page' r → Listed page page' r
+  listed-message number (Output held) h = absurd h
+  listed-message number (Message held) h = (number, h)

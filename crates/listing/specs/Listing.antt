@@ -11,6 +11,7 @@ use Rattle.indexed.specs.List.{blocks}
 use Rattle.record6250.specs.Record.{writtenRecord}
 use Rattle.record6250.specs.Written.{writeAnswer}
 use Rattle.streams.specs.Ascii.{ascii}
+use Rattle.streams.specs.Message.{unreadText}
 use Rattle.streams.specs.Page.{decimalText, Printed}
 use Rattle.streams.specs.declared.Text.{Text}
 use Rattle.streams.specs.declared.Text.the-variants.{Output, Message}
@@ -42,7 +43,7 @@ answerText words (refused number place) = refusalText number place
 abbrev pub listingText : List ℕ → List ℕ
 listingText bytes = answerText (writtenRecord bytes) (writeAnswer (length bytes) 5274)
 
--- what is put on a page: for standard output the listing of data and nothing else, or a message
+-- what is put on a page: the listing of data, and nothing else, for standard output; or why there are none, for standard error
 abbrev pub Listed : List ℕ → List ℕ → Text → Type 0
 Listed page page' (Output held) = (bytes : List ℕ) × Printed (listingText bytes) page 0 page' held
-Listed page page' (Message held) = Unit {0}
+Listed page page' (Message held) = (number : ℕ) × Printed (unreadText number) page 0 page' held

@@ -1,13 +1,15 @@
 -- What is known of an input that was read and of a text that was handed over.
 -- Assumes nothing.
 use Prim.Native.Nat.{ℕ, _≤_}
-use mathlib.Core.Bool.{Bool, false}
+use mathlib.Core.Path.{_≡_}
+use mathlib.Core.Bool.{Bool, true, false}
 use mathlib.Core.List.{List}
 use lib.Dec.{eqb}
 use Rattle.io.specs.Counts.{Counts}
 use Rattle.streams.specs.declared.Ended.{Ended}
 use Rattle.streams.specs.declared.Ended.the-variants.{After, Failed}
 use Rattle.streams.specs.Page.{Printed}
+use Rattle.streams.specs.Message.{unwrittenText}
 use Rattle.streams.specs.declared.Text.{Text}
 use Rattle.streams.specs.declared.Text.the-variants.{Output, Message}
 
@@ -26,16 +28,21 @@ abbrev pub isWhole : Ended → ℕ → Bool
 isWhole (After count) all = eqb count all
 isWhole (Failed number) all = false
 
-abbrev pub Finished : Text → Ended → Type 0
-Finished (Output held) sent = Taken sent held
-Finished (Message held) sent = Taken sent held
+-- what is on a page once a text was handed over: what was there, or the message that it could not be written
+abbrev pub Left : Bool → List ℕ → List ℕ → List ℕ → Type 0
+Left true message page page' = page' ≡ page
+Left false message page page' = (held : ℕ) × Printed message page 0 page' held
 
--- for standard error
-abbrev pub IsMessage : Text → Type 0
-IsMessage (Output held) = ⊥
-IsMessage (Message held) = Unit {0}
+abbrev pub Finished : Text → List ℕ → List ℕ → Ended → Type 0
+Finished (Output held) page page' sent = Taken sent held × Left (isWhole sent held) (unwrittenText sent held) page page'
+Finished (Message held) page page' sent = Taken sent held × (page' ≡ page)
 
 -- a text that was put on a page, for standard output
 abbrev pub Prints : List ℕ → List ℕ → List ℕ → Text → Type 0
 Prints text page page' (Output held) = Printed text page 0 page' held
 Prints text page page' (Message held) = ⊥
+
+-- and for standard error
+abbrev pub Tells : List ℕ → List ℕ → List ℕ → Text → Type 0
+Tells text page page' (Output held) = ⊥
+Tells text page page' (Message held) = Printed text page 0 page' held

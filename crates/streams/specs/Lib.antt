@@ -1,4 +1,5 @@
 pub mod Moved
-pub mod Ended
 pub mod Ascii
 pub mod Page
+pub mod Message
+pub mod Ended

@@ -5,7 +5,9 @@ use crate::moved::INTERRUPTED;
 use crate::page::PAGE;
 use crate::page::decimal;
 use crate::page::put;
-ghost use Rattle.streams.specs.Ended.{IsMessage};
+ghost use Rattle.streams.specs.Page.{Printed};
+ghost use Rattle.streams.specs.Message.{meaningText, errorText, cutText, unreadText, unwrittenText};
+ghost use Rattle.streams.specs.Ended.{Tells};
 
 const DEVICE_FAILED: u32 = libc::EIO as u32;
 
@@ -22,7 +24,9 @@ const NO_SPACE: u32 = libc::ENOSPC as u32;
 const NO_READER: u32 = libc::EPIPE as u32;
 
 // What the number of an error means.
-fn meaning(page: &mut [u8; PAGE], held: usize, number: u32) -> usize {
+fn meaning(page: &mut [u8; PAGE], held: usize, number: u32) -> usize
+    ensures { λ r. ⌜ Printed (meaningText number) (now (page .entry)) held (now (page .exit)) r ⌝ }
+{
     match number {
         INTERRUPTED => put(page, held, b", interrupted"),
         DEVICE_FAILED => put(page, held, b", the device failed"),
@@ -36,7 +40,10 @@ fn meaning(page: &mut [u8; PAGE], held: usize, number: u32) -> usize {
     }
 }
 
-fn error(page: &mut [u8; PAGE], held: usize, number: u32) -> usize {
+// The error of a failure, and the end of the line.
+fn error(page: &mut [u8; PAGE], held: usize, number: u32) -> usize
+    ensures { λ r. ⌜ Printed (errorText number) (now (page .entry)) held (now (page .exit)) r ⌝ }
+{
     let numbered = put(page, held, b"error ");
     let told = decimal(page, numbered, number as u64);
     let meant = meaning(page, told, number);
@@ -45,14 +52,16 @@ fn error(page: &mut [u8; PAGE], held: usize, number: u32) -> usize {
 
 // The message of an input that could not be read.
 pub fn unread(page: &mut [u8; PAGE], number: u32) -> Text
-    ensures { λ r. ⌜ IsMessage r ⌝ }
+    ensures { λ r. ⌜ Tells (unreadText number) (now (page .entry)) (now (page .exit)) r ⌝ }
 {
     let begun = put(page, 0, b"cannot read standard input: ");
     Text::Message(error(page, begun, number))
 }
 
 // The message of an output of so many bytes that could not be written whole.
-pub(crate) fn unwritten(page: &mut [u8; PAGE], sent: Ended, all: usize) -> usize {
+pub(crate) fn unwritten(page: &mut [u8; PAGE], sent: Ended, all: usize) -> usize
+    ensures { λ r. ⌜ Printed (unwrittenText sent all) (now (page .entry)) 0 (now (page .exit)) r ⌝ }
+{
     let begun = put(page, 0, b"cannot write standard output: ");
     match sent {
         Ended::After(count) => cut(page, begun, count, all),
@@ -60,7 +69,10 @@ pub(crate) fn unwritten(page: &mut [u8; PAGE], sent: Ended, all: usize) -> usize
     }
 }
 
-fn cut(page: &mut [u8; PAGE], held: usize, count: usize, all: usize) -> usize {
+// How much of an output was taken, and the end of the line.
+fn cut(page: &mut [u8; PAGE], held: usize, count: usize, all: usize) -> usize
+    ensures { λ r. ⌜ Printed (cutText count all) (now (page .entry)) held (now (page .exit)) r ⌝ }
+{
     let begun = put(page, held, b"cut behind ");
     let counted = decimal(page, begun, count as u64);
     let joined = put(page, counted, b" of ");

@@ -97,7 +97,7 @@ fn output(page: &[u8; PAGE], held: usize) -> Ended
 
 // Hands over a program's text, and tells on standard error what of its output could not be written.
 pub fn finish(text: Text, page: &mut [u8; PAGE]) -> Ended
-    ensures { λ r. ⌜ Finished text r ⌝ }
+    ensures { λ r. ⌜ Finished text (now (page .entry)) (now (page .exit)) r ⌝ }
 {
     match text {
         Text::Message(held) => send_page(STDERR_FILENO, page, held),

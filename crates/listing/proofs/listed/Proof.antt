@@ -42,7 +42,7 @@ returns c =
     listed-text _ _ bytes (c .listing .result) (c .listing .ensures)
 
 returns-2 : tie.Need-returns-2
-returns-2 c = listed-message _ _ (c .unread .result) (c .unread .ensures)
+returns-2 c = listed-message _ _ _ (c .unread .result) (c .unread .ensures)
 
 pub listed-spec : {M : Type 1} → statement M
 listed-spec =

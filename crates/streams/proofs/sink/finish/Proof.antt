@@ -1,5 +1,9 @@
 -- `streams::sink::finish` meets its contract: what comes of the text is what came of handing it over.
 -- Assumes nothing.
+use mathlib.Core.Path.{_≡_, refl, sym, _∙_}
+use mathlib.Core.Bool.{true, false}
+use Rattle.streams.specs.Ended.{isWhole}
+use borrow.Author.Tests.{not-true, not-false}
 use borrow.Author.Needs.{needs}
 use Rattle.streams.proofs.sink.finish.Statement.{statement}
 use Rattle.streams.proofs.sink.finish.Tie as tie
@@ -26,17 +30,20 @@ send-page-requires-2 : tie.Need-send-page-requires-2
 send-page-requires-2 c κs = search needs
 
 returns : tie.Need-returns
-returns c = rw (c .before .before .before .text .given .1) (c .send-page .ensures)
+returns c = rw (c .before .before .before .text .given .1) (c .send-page .ensures, refl)
 
 returns-2 : tie.Need-returns-2
 returns-2 c =
+    let told = c .before .before in
     let sent = c .before .before .before .before .before .before in
-    rw (sent .before .before .before .text2 .given .1) (sent .output .ensures)
+    let cut : isWhole (sent .output .result) (sent .before .before .before .text2 .given .0 .0) ≡ false = sym (c .before .before .before .before .before .is-whole .ensures) ∙ not-true _ (c .before .before .before .before .if1 .taken) in
+    rw (sent .before .before .before .text2 .given .1, cut) (sent .output .ensures, (told .unwritten .result, told .unwritten .ensures))
 
 returns-3 : tie.Need-returns-3
 returns-3 c =
     let sent = c .before .before in
-    rw (sent .before .before .before .text2 .given .1) (sent .output .ensures)
+    let whole : isWhole (sent .output .result) (sent .before .before .before .text2 .given .0 .0) ≡ true = sym (c .before .is-whole .ensures) ∙ not-false _ (c .if1 .left) in
+    rw (sent .before .before .before .text2 .given .1, whole) (sent .output .ensures, refl)
 
 pub finish-spec : {M : Type 1} → statement M
 finish-spec =

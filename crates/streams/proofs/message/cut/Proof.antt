@@ -1,0 +1,50 @@
+-- `streams::message::cut` meets its contract: one text behind another.
+-- Assumes nothing.
+use Rattle.streams.proofs.Printed.{printed-both}
+use borrow.Author.Needs.{needs}
+use Rattle.streams.proofs.message.cut.Statement.{statement}
+use Rattle.streams.proofs.message.cut.Tie as tie
+
+slice-aggregate-put : tie.Need-slice-aggregate-put
+slice-aggregate-put c = search needs
+
+put-requires : tie.Need-put-requires
+put-requires c κs = search needs
+
+decimal-requires : tie.Need-decimal-requires
+decimal-requires c κs = search needs
+
+slice-aggregate-put-2 : tie.Need-slice-aggregate-put-2
+slice-aggregate-put-2 c = search needs
+
+put-requires-2 : tie.Need-put-requires-2
+put-requires-2 c κs = search needs
+
+decimal-requires-2 : tie.Need-decimal-requires-2
+decimal-requires-2 c κs = search needs
+
+slice-aggregate-put-3 : tie.Need-slice-aggregate-put-3
+slice-aggregate-put-3 c = search needs
+
+put-requires-3 : tie.Need-put-requires-3
+put-requires-3 c κs = search needs
+
+returns : tie.Need-returns
+returns c =
+    let second = c .before .before .before .before .before in
+    let first = second .before .before .before .before .before in
+    printed-both (printed-both (printed-both (printed-both (first .put .ensures) (second .before .before .before .decimal .ensures)) (second .put2 .ensures)) (c .before .before .before .decimal2 .ensures)) (c .put3 .ensures)
+
+pub cut-spec : {M : Type 1} → statement M
+cut-spec =
+    tie.close
+    (tie.spec
+    slice-aggregate-put
+    put-requires
+    decimal-requires
+    slice-aggregate-put-2
+    put-requires-2
+    decimal-requires-2
+    slice-aggregate-put-3
+    put-requires-3
+    returns)
