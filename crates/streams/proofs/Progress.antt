@@ -1,7 +1,7 @@
 -- A call that moves some bytes to or from the rest of a slice: it moves one at least, and stays within the slice.
 -- Assumes nothing.
 use Prim.Native.Nat.{ℕ, _+_, _-_, _≤_, _<_}
-use mathlib.Core.Path.{_≡_, sym, _∙_, subst}
+use mathlib.Core.Path.{_≡_, sym, subst}
 use mathlib.Core.List.{List}
 use native.Mathlib.Omega.{arith}
 use lib.ListN.{length, drop, take, length-drop}
@@ -14,7 +14,7 @@ use Rattle.streams.specs.declared.Ended.the-variants.{After}
 use Rattle.streams.specs.declared.moved.Moved.{Moved}
 use Rattle.streams.specs.declared.moved.Moved.the-variants.{Bytes, Nothing, Interrupted, Failed}
 
-pub rest-length : (space : List ℕ) (count : ℕ) → length (take (length space - count) (drop count space)) ≡ length space - count
+rest-length : (space : List ℕ) (count : ℕ) → length (take (length space - count) (drop count space)) ≡ length space - count
 rest-length space count = length-take-le _ _ (omega (arith, length-drop count space))
 
 pub progress : (space : List ℕ) (count rest more : ℕ) (came : Moved) → count ≤ length space → rest ≡ length (take (length space - count) (drop count space))

@@ -1,6 +1,6 @@
 -- What a page holds.
 -- Assumes nothing.
-use Prim.Native.Nat.{ℕ, suc, _+_, _^_, _≤_, max}
+use Prim.Native.Nat.{ℕ, suc, _+_, _^_, _≤_, _<_, max}
 use mathlib.Core.Path.{_≡_}
 use mathlib.Core.Bool.{cond}
 use mathlib.Core.List.{List}
@@ -23,6 +23,10 @@ heldAfter held count = cond (leb (held + count) pageSize) (held + count) (max he
 pub record Printed (text page : List ℕ) (held : ℕ) (page' : List ℕ) (held' : ℕ) : Type 0 where
   pub count : held' ≡ heldAfter held (length text)
   pub stored : held + length text ≤ pageSize → page' ≡ sets page held text
+
+-- a text that does not fit leaves the page as it was
+abbrev pub Kept : List ℕ → List ℕ → ℕ → List ℕ → Type 0
+Kept text page held page' = pageSize < held + length text → page' ≡ page
 
 -- how many digits a number has in a base, and no fewer than the least; one of 64 bits has 20 at most
 unfoldable pub places : ℕ → ℕ → ℕ → ℕ

@@ -55,7 +55,7 @@ returns c =
     let l = at .loop in
     let args = at .before .before .args in
     let all : l .j ≡ 9 = omega (arith, l .inv .0) in
-    words-all (args .words .now) (args .at) (l .j) all (l .inv .1) (c .put .ensures)
+    words-all (args .words .now) (args .at) (l .j) all (l .inv .1) (c .put .ensures .0)
 
 pub put-group-spec : {M : Type 1} → statement M
 put-group-spec =

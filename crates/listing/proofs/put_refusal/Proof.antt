@@ -39,8 +39,8 @@ returns : tie.Need-returns
 returns c =
     let second = c .before .before .before .before .before in
     let first = second .before .before .before in
-    let number = rw (first .before .number .ensures) at (first .decimal .ensures) in
-    printed-both (printed-both (printed-both (printed-both (first .before .before .before .put .ensures) number) (second .put2 .ensures)) (c .before .before .before .decimal2 .ensures)) (c .put3 .ensures)
+    let number = rw (first .before .number .ensures) at (first .decimal .ensures .0) in
+    printed-both (printed-both (printed-both (printed-both (first .before .before .before .put .ensures .0) number) (second .put2 .ensures .0)) (c .before .before .before .decimal2 .ensures .0)) (c .put3 .ensures .0)
 
 pub put-refusal-spec : {M : Type 1} → statement M
 put-refusal-spec =

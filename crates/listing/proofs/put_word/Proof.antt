@@ -1,6 +1,5 @@
 -- `listing::put_word` meets its contract: the first word has no space in front of it.
 -- Assumes nothing.
-use mathlib.Core.Path.{refl}
 use borrow.Author.Tests.{eq-eqb, ne-eqb}
 use Rattle.streams.proofs.Printed.{printed-both}
 use borrow.Author.Needs.{needs}
@@ -11,7 +10,7 @@ decimal-requires : tie.Need-decimal-requires
 decimal-requires c κs = search needs
 
 returns : tie.Need-returns
-returns c = rw (eq-eqb _ _ (c .before .before .if1 .taken)) (c .decimal .ensures)
+returns c = rw (eq-eqb _ _ (c .before .before .if1 .taken)) (c .decimal .ensures .0)
 
 slice-aggregate-put : tie.Need-slice-aggregate-put
 slice-aggregate-put c = search needs
@@ -23,7 +22,7 @@ decimal-requires-2 : tie.Need-decimal-requires-2
 decimal-requires-2 c κs = search needs
 
 returns-2 : tie.Need-returns-2
-returns-2 c = rw (ne-eqb _ _ (c .before .before .before .before .before .if1 .left)) (printed-both (c .before .before .put .ensures) (c .decimal2 .ensures))
+returns-2 c = rw (ne-eqb _ _ (c .before .before .before .before .before .if1 .left)) (printed-both (c .before .before .put .ensures .0) (c .decimal2 .ensures .0))
 
 pub put-word-spec : {M : Type 1} → statement M
 put-word-spec =

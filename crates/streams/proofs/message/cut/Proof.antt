@@ -33,7 +33,7 @@ returns : tie.Need-returns
 returns c =
     let second = c .before .before .before .before .before in
     let first = second .before .before .before .before .before in
-    printed-both (printed-both (printed-both (printed-both (first .put .ensures) (second .before .before .before .decimal .ensures)) (second .put2 .ensures)) (c .before .before .before .decimal2 .ensures)) (c .put3 .ensures)
+    printed-both (printed-both (printed-both (printed-both (first .put .ensures .0) (second .before .before .before .decimal .ensures .0)) (second .put2 .ensures .0)) (c .before .before .before .decimal2 .ensures .0)) (c .put3 .ensures .0)
 
 pub cut-spec : {M : Type 1} → statement M
 cut-spec =

@@ -27,7 +27,7 @@ returns : tie.Need-returns
 returns c =
     let meant = c .before .before .before in
     let numbered = meant .before .before in
-    printed-both (printed-both (printed-both (numbered .before .before .put .ensures) (numbered .decimal .ensures)) (meant .meaning .ensures)) (c .put2 .ensures)
+    printed-both (printed-both (printed-both (numbered .before .before .put .ensures .0) (numbered .decimal .ensures .0)) (meant .meaning .ensures)) (c .put2 .ensures .0)
 
 pub error-spec : {M : Type 1} → statement M
 error-spec =

@@ -57,35 +57,35 @@ put-requires-8 c κs = search needs
 
 returns : tie.Need-returns
 unfolding meaningText
-returns c = rw (c .before .before .before .match .keys1) (c .put .ensures)
+returns c = rw (c .before .before .before .match .keys1) (c .put .ensures .0)
 
 returns-2 : tie.Need-returns-2
 unfolding meaningText
-returns-2 c = rw (c .before .before .before .match .keys2) (c .put2 .ensures)
+returns-2 c = rw (c .before .before .before .match .keys2) (c .put2 .ensures .0)
 
 returns-3 : tie.Need-returns-3
 unfolding meaningText
-returns-3 c = rw (c .before .before .before .match .keys3) (c .put3 .ensures)
+returns-3 c = rw (c .before .before .before .match .keys3) (c .put3 .ensures .0)
 
 returns-4 : tie.Need-returns-4
 unfolding meaningText
-returns-4 c = rw (c .before .before .before .match .keys4) (c .put4 .ensures)
+returns-4 c = rw (c .before .before .before .match .keys4) (c .put4 .ensures .0)
 
 returns-5 : tie.Need-returns-5
 unfolding meaningText
-returns-5 c = rw (c .before .before .before .match .keys5) (c .put5 .ensures)
+returns-5 c = rw (c .before .before .before .match .keys5) (c .put5 .ensures .0)
 
 returns-6 : tie.Need-returns-6
 unfolding meaningText
-returns-6 c = rw (c .before .before .before .match .keys6) (c .put6 .ensures)
+returns-6 c = rw (c .before .before .before .match .keys6) (c .put6 .ensures .0)
 
 returns-7 : tie.Need-returns-7
 unfolding meaningText
-returns-7 c = rw (c .before .before .before .match .keys7) (c .put7 .ensures)
+returns-7 c = rw (c .before .before .before .match .keys7) (c .put7 .ensures .0)
 
 returns-8 : tie.Need-returns-8
 unfolding meaningText
-returns-8 c = rw (c .before .before .before .match .keys8) (c .put8 .ensures)
+returns-8 c = rw (c .before .before .before .match .keys8) (c .put8 .ensures .0)
 
 returns-9 : tie.Need-returns-9
 unfolding meaningText

@@ -15,7 +15,7 @@ error-requires : tie.Need-error-requires
 error-requires c κs = search needs
 
 returns : tie.Need-returns
-returns c = printed-both (c .before .before .put .ensures) (c .error .ensures)
+returns c = printed-both (c .before .before .put .ensures .0) (c .error .ensures)
 
 pub unread-spec : {M : Type 1} → statement M
 unread-spec = tie.close (tie.spec slice-aggregate-put put-requires error-requires returns)

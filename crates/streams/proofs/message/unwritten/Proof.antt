@@ -25,11 +25,11 @@ error-requires c κs = search needs
 
 returns : tie.Need-returns
 returns c =
-    let sent = c .before .before .before in rw (sent .sent .given .1) (printed-both (sent .before .before .put .ensures) (c .cut .ensures))
+    let sent = c .before .before .before in rw (sent .sent .given .1) (printed-both (sent .before .before .put .ensures .0) (c .cut .ensures))
 
 returns-2 : tie.Need-returns-2
 returns-2 c =
-    let sent = c .before .before .before in rw (sent .sent2 .given .1) (printed-both (sent .before .before .put .ensures) (c .error .ensures))
+    let sent = c .before .before .before in rw (sent .sent2 .given .1) (printed-both (sent .before .before .put .ensures .0) (c .error .ensures))
 
 pub unwritten-spec : {M : Type 1} → statement M
 unwritten-spec =

@@ -1,10 +1,10 @@
 -- `streams::page::put` meets its contract. The loop's invariant: the first k bytes are stored.
 -- Assumes nothing.
-use Prim.Native.Nat.{ℕ, _+_, _-_, _≤_}
+use Prim.Native.Nat.{_+_, _-_, _≤_}
 use mathlib.Core.Path.{_≡_, refl, ap, _∙_}
 use native.Mathlib.Omega.{arith}
 use borrow.Author.Needs.{needs}
-use lib.ListN.{length, take, length-set}
+use lib.ListN.{length, take}
 use lib.Seq.{sets, take-all}
 use Rattle.indexed.proofs.Stores.{sets-taken}
 use Rattle.streams.proofs.Printed.{printed, not-printed}
@@ -19,11 +19,11 @@ abbrev μ-loop : tie.MeasureT-loop
 
 returns : tie.Need-returns Inv-loop μ-loop
 returns c =
-    let args = c .before .args in not-printed (args .bytes .now) (args .page .now) (args .page .now) (args .held) (args .held) (omega arith) (omega arith)
+    let args = c .before .args in (not-printed (args .bytes .now) (args .page .now) (args .page .now) (args .held) (args .held) (omega arith) (omega arith), λ _. refl)
 
 returns-2 : tie.Need-returns-2 Inv-loop μ-loop
 returns-2 c =
-    let args = c .before .before .args in not-printed (args .bytes .now) (args .page .now) (args .page .now) (args .held) 65537 (omega arith) (omega arith)
+    let args = c .before .before .args in (not-printed (args .bytes .now) (args .page .now) (args .page .now) (args .held) 65537 (omega arith) (omega arith), λ _. refl)
 
 loop-holds : tie.Need-loop-holds Inv-loop μ-loop
 loop-holds c = (omega arith, omega arith, refl)
@@ -61,7 +61,7 @@ returns-3 c =
     let args = c .before .before .before .before .args in
     let all : l .k ≡ length (args .bytes .now) = omega arith in
     let whole : take (l .k) (args .bytes .now) ≡ args .bytes .now = take-all (l .k) (args .bytes .now) (omega arith) in
-    rw all (printed (args .bytes .now) (args .page .now) (l .page) (args .held) (l .inv .1) (l .inv .2 ∙ ap (sets (args .page .now) (args .held)) whole))
+    (rw all (printed (args .bytes .now) (args .page .now) (l .page) (args .held) (l .inv .1) (l .inv .2 ∙ ap (sets (args .page .now) (args .held)) whole)), λ over. absurd (omega (arith, l .inv .1)))
 
 pub put-spec : {M : Type 1} → statement M
 put-spec =

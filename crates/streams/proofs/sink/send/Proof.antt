@@ -1,6 +1,6 @@
 -- `streams::sink::send` meets its contract. The loop's invariant: what was taken is within the bytes.
 -- Assumes nothing.
-use Prim.Native.Nat.{ℕ, _-_, _≤_}
+use Prim.Native.Nat.{_-_, _≤_}
 use mathlib.Core.Path.{refl}
 use native.Mathlib.Omega.{arith}
 use lib.ListN.{length}

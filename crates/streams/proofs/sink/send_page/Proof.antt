@@ -1,6 +1,5 @@
 -- `streams::sink::send_page` meets its contract: what is held is within the page.
 -- Assumes nothing.
-use Prim.Native.Nat.{ℕ}
 use mathlib.Core.Path.{_≡_, sym, subst}
 use borrow.Author.Needs.{needs}
 use lib.ListN.{length, take}
