@@ -2,12 +2,12 @@
 -- Assumes nothing.
 use Prim.Native.Nat.{ℕ}
 use mathlib.Core.List.{List, [], _∷_, _++_}
-use lib.Dec.{ltb}
 use lib.ListN.{length, drop}
-use Rattle.indexed.specs.List.{firstWhere}
 use Rattle.answer.specs.declared.Reason.{Reason}
 use Rattle.answer.specs.declared.Reason.the-variants.{Length, Space, StrayBits, ManyPointed, NoGroup, Padding, NoRecord, SeveralRecords}
 use Rattle.answer.specs.declared.Refusal.{Refusal}
+use Rattle.answer.specs.declared.Written.{Written}
+use Rattle.answer.specs.declared.Written.the-variants.{Delivered, Refused}
 
 -- the numbers of document 01's table, "Where a call is turned down"
 abbrev pub numberOf : Reason → ℕ
@@ -37,12 +37,13 @@ refusedFor reason place = refused (numberOf reason) place
 abbrev pub toldRefusal : Refusal → Answer
 toldRefusal r = refusedFor (r .reason) (r .place)
 
+-- what a writer tells: a delivery tells the number of groups or characters
+abbrev pub toldWritten : Written → Answer
+toldWritten (Delivered count) = delivered (count ∷ [])
+toldWritten (Refused r) = toldRefusal r
+
 -- What the output holds after a call (the notice, first term): a delivery puts its result at the front and leaves what is
 -- behind it; a refusal leaves all of it.
 unfoldable pub outputAfter : Answer → List ℕ → List ℕ → List ℕ
 outputAfter (delivered values) result output = result ++ drop (length result) output
 outputAfter (refused number place) result output = output
-
--- the index of the first value above the limit, or the number of values where none is
-unfoldable pub firstAbove : ℕ → List ℕ → ℕ
-firstAbove limit values = firstWhere (λ v. ltb limit v) values

@@ -1,7 +1,7 @@
 // How a call answers: a delivery, or a refusal with its number and its place (document 01, "Where a
 // call is turned down"). "Delivered", "refused" and "place" are that paper's terms.
 ghost use mathlib.Core.Path.{_≡_};
-ghost use Rattle.answer.specs.Answer.{numberOf, firstAbove};
+ghost use Rattle.answer.specs.Answer.{numberOf};
 
 // Why a call is refused, in the order of document 01's table.
 pub enum Reason {
@@ -47,16 +47,8 @@ pub struct Refusal {
     pub place: usize,
 }
 
-// The index of the first value above the limit, or the number of values where none is.
-pub fn first_above(values: &[u16], limit: u16) -> usize
-    ensures { λ r. ⌜ r ≡ firstAbove limit (now (values .entry)) ⌝ }
-{
-    let mut i = 0;
-    while i < values.len() {
-        if values[i] > limit {
-            return i;
-        }
-        i += 1;
-    }
-    i
+// What writing a record answers, at either density: the number of its groups or characters, or the refusal.
+pub enum Written {
+    Delivered(usize),
+    Refused(Refusal),
 }

@@ -10,7 +10,8 @@ use lib.Dec.{eqb, leb, ltb}
 use lib.ListN.{length, drop}
 use Rattle.register.specs.Bit.{bitsOf}
 use Rattle.register.proofs.Bit.{Digits}
-use Rattle.answer.specs.Answer.{Answer, delivered, refusedFor, outputAfter, firstAbove}
+use Rattle.answer.specs.Answer.{Answer, delivered, refusedFor, outputAfter}
+use Rattle.slices.specs.Above.{firstAbove}
 use Rattle.answer.specs.declared.Refusal.{Refusal}
 use Rattle.answer.specs.declared.Reason.the-variants.{Length, Space, StrayBits}
 use Rattle.track_order.specs.Moved.{wordsAnswer}

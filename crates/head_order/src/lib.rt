@@ -70,7 +70,7 @@ fn checked(source: &[u16], space: usize) -> MovedWords
             place: 0,
         });
     }
-    let place = answer::first_above(source, Code6250::MOST_WORD);
+    let place = slices::first_above(source, Code6250::MOST_WORD);
     if place < Code6250::TRACKS {
         return MovedWords::Refused(Refusal {
             reason: Reason::StrayBits,

@@ -9,7 +9,5 @@ pub mod Front
 pub mod Blocks
 pub mod Part
 pub mod Map
-pub mod Walk
-pub mod Turned
 pub mod Rule
 pub mod Stores

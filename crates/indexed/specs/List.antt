@@ -1,6 +1,6 @@
 -- Lists by index.
 -- Assumes nothing.
-use Prim.Native.Nat.{ℕ, zero, suc, _+_, _-_}
+use Prim.Native.Nat.{ℕ, zero, suc, _+_}
 use mathlib.Core.Bool.{Bool, cond}
 use mathlib.Core.List.{List, [], _∷_, _++_}
 
@@ -35,10 +35,6 @@ firstBelow n p = firstWhere p (below n)
 unfoldable pub keep : (ℕ → Bool) → List ℕ → List ℕ
 keep p [] = []
 keep p (x ∷ xs) = cond (p x) (x ∷ keep p xs) (keep p xs)
-
--- the place of element k among n that come last first, or as they are
-unfoldable pub turnedPlace : Bool → ℕ → ℕ → ℕ
-turnedPlace backward n k = cond backward (n - 1 - k) k
 
 -- the sum of f 0, .., f (n - 1)
 unfoldable pub total : ℕ → (ℕ → ℕ) → ℕ

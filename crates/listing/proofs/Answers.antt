@@ -5,15 +5,14 @@ use mathlib.Core.Path.{_≡_, sym, ap, _∙_}
 use mathlib.Core.List.{List, [], _∷_, _++_}
 use native.Mathlib.Omega.{arith}
 use lib.ListN.{length, drop, getD, List·getD-append}
-use Rattle.answer.specs.Answer.{Answer, delivered, numberOf, outputAfter}
+use Rattle.answer.specs.Answer.{Answer, delivered, numberOf, toldWritten, outputAfter}
 use Rattle.answer.specs.declared.Refusal.{Refusal}
 use Rattle.record6250.specs.Record.{writtenRecord, groupsFor}
 use Rattle.record6250.specs.Written.{writeAnswer}
 use Rattle.record6250.proofs.Answer.{written-passed}
 use Rattle.record6250.proofs.Record.{length-record}
-use Rattle.writer6250.specs.Written.{toldWritten}
-use Rattle.writer6250.specs.declared.Written.{Written}
-use Rattle.writer6250.specs.declared.Written.the-variants.{Delivered, Refused}
+use Rattle.answer.specs.declared.Written.{Written}
+use Rattle.answer.specs.declared.Written.the-variants.{Delivered, Refused}
 use Rattle.streams.specs.Message.{unreadText}
 use Rattle.streams.specs.Ended.{Prints, Tells}
 use Rattle.streams.specs.declared.Text.{Text}

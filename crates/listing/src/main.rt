@@ -1,12 +1,12 @@
 // The listing program (document 01, "Bench readings"): reads data from standard input and prints the
 // words of the 6250 record that is written from them, a line of nine for each group; or the refusal.
 use answer::Refusal;
+use answer::Written;
 use streams::Ended;
 use streams::PAGE;
 use streams::Text;
 use streams::decimal;
 use streams::put;
-use writer6250::Written;
 ghost use Prim.Native.Nat.{_+_, _*_, _≤_};
 ghost use lib.ListN.{length};
 ghost use Rattle.answer.specs.Answer.{numberOf};

@@ -6,7 +6,7 @@ use mathlib.Core.Bool.{Bool, false, not, _&&_}
 use mathlib.Core.List.{List}
 use lib.Dec.{eqb}
 use lib.ListN.{length, getD}
-use Rattle.indexed.specs.List.{turnedPlace}
+use Rattle.slices.specs.Turned.{turnedPlace}
 use Rattle.register.specs.Bit.{bit}
 use Rattle.group_code.specs.Word.{forwardWord}
 use Rattle.record6250.specs.Picture.{mapRead}

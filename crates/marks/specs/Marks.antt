@@ -5,7 +5,8 @@ use mathlib.Core.Bool.{Bool, false, cond, not, _&&_}
 use mathlib.Core.List.{List}
 use lib.Dec.{eqb}
 use lib.ListN.{length, getD}
-use Rattle.indexed.specs.List.{tabulate, turnedPlace}
+use Rattle.indexed.specs.List.{tabulate}
+use Rattle.slices.specs.Turned.{turnedPlace}
 use Rattle.indexed.specs.Test.{allBelow}
 use Rattle.register.specs.Bit.{bit}
 use Rattle.group_code.specs.Word.{legalWord, forwardWord}

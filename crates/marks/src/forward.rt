@@ -1,8 +1,6 @@
-// A reading turned forward (document 01, "Backward"): groups, maps and characters come last first, and each
-// word's ten bits are reversed.
+// A word turned forward (document 01, "Backward"): its ten bits are reversed.
 ghost use mathlib.Core.Path.{_≡_};
 ghost use Prim.Native.Nat.{_<_};
-ghost use Rattle.indexed.specs.List.{turnedPlace};
 ghost use Rattle.register.specs.Bit.{bit};
 ghost use Rattle.group_code.specs.Word.{reversedWord, forwardWord};
 
@@ -12,15 +10,6 @@ pub(crate) fn bit_of(value: u16, k: usize) -> u16
     ensures { λ r. ⌜ r ≡ bit k value ⌝ }
 {
     (value >> k) % 2
-}
-
-// The place of element k of the forward picture among the lent ones.
-pub(crate) fn turned_place(backward: bool, count: usize, k: usize) -> usize
-    requires { ⌜ k < count ⌝ }
-    ensures place { λ r. ⌜ r ≡ turnedPlace backward count k ⌝ }
-    ensures within { λ r. ⌜ r < count ⌝ }
-{
-    if backward { count - 1 - k } else { k }
 }
 
 // A word with its ten bits the other way round; one of more bits stays, and is refused.

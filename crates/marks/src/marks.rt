@@ -4,8 +4,8 @@
 // was read and what was pointed.
 use crate::forward::bit_of;
 use crate::forward::forward_word;
-use crate::forward::turned_place;
 use answer::Reason;
+use slices::turned_place;
 ghost use mathlib.Core.Bool.{not, _&&_};
 ghost use mathlib.Core.List.{_++_};
 ghost use mathlib.Core.Path.{_≡_};

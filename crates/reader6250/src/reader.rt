@@ -134,7 +134,7 @@ fn lengths_suit(words: usize, maps: usize) -> bool
     if maps > Code6250::MOST_GROUPS {
         return false;
     }
-    words == maps * Code6250::WORDS
+    words == maps * Code6250::NUMBERS
 }
 
 // Reads a record, forward or backward, with the table of that direction. A short record takes a small

@@ -8,7 +8,8 @@ use answer::Refusal;
 use cyclic::Code800;
 use cyclic::shift;
 use cyclic::stepped;
-use register::union;
+use slices::turned_place;
+use slices::union;
 ghost use mathlib.Core.Bool.{true, false, cond, _&&_};
 ghost use mathlib.Core.List.{List, [], _∷_, _++_};
 ghost use mathlib.Core.Path.{_≡_};
@@ -48,10 +49,7 @@ fn forward_character(characters: &[u16], backward: bool, k: usize) -> u16
     requires { ⌜ k < length (now characters) ⌝ }
     ensures { λ r. ⌜ r ≡ getD (picture backward (now (characters .entry))) k 0 ⌝ }
 {
-    if backward {
-        return characters[characters.len() - 1 - k];
-    }
-    characters[k]
+    characters[turned_place(backward, characters.len(), k)]
 }
 
 // Gathers the registers and the sums of a reading.

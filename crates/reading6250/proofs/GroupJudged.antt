@@ -11,7 +11,8 @@ use borrow.Author.Tests.{ltb-false, le-ltb, ne-eqb}
 use lib.Bits.{bitOr, or-lt, or-zero-r}
 use lib.Dec.{eqb}
 use lib.ListN.{length, getD, List·getD-eq-default}
-use Rattle.indexed.specs.List.{tabulate, turnedPlace}
+use Rattle.indexed.specs.List.{tabulate}
+use Rattle.slices.specs.Turned.{turnedPlace}
 use Rattle.indexed.proofs.Map.{getD-map}
 use Rattle.indexed.proofs.Tabulate.{getD-tabulate, tabulate-same}
 use Rattle.register.specs.Bit.{ofBits}
@@ -33,7 +34,7 @@ use Rattle.record6250.specs.Read.{readGroup, readMap, judgement, changedTracks}
 use Rattle.record6250.proofs.FittingGroup.{same-test, group-sound}
 use Rattle.record6250.proofs.Reading.{words-long, words-below}
 use Rattle.reading6250.proofs.StrayBits.{forward-above}
-use Rattle.indexed.proofs.Turned.{turned-lt, turned-twice}
+use Rattle.slices.proofs.Turned.{turned-lt, turned-twice}
 use Rattle.indexed.proofs.Test.{flag-lt}
 
 -- ---- the lent words have ten bits

@@ -10,11 +10,11 @@ use native.Mathlib.Omega.{arith}
 use borrow.Author.Tests.{lt-ltb, le-ltb}
 use lib.Dec.{ltb}
 use lib.ListN.{length, getD}
-use Rattle.indexed.specs.List.{turnedPlace}
+use Rattle.slices.specs.Turned.{turnedPlace}
 use Rattle.indexed.proofs.Below.{first-below-at, first-below-none, first-below-same}
 use Rattle.indexed.proofs.Tabulate.{getD-tabulate}
-use Rattle.register.specs.Union.{unionOf}
-use Rattle.register.proofs.Or.{below-union}
+use Rattle.slices.specs.Union.{unionOf}
+use Rattle.slices.proofs.Or.{below-union}
 use Rattle.group_code.specs.Word.{reversedWord, forwardWord}
 use Rattle.group_code.proofs.Words.{reversed-lt, reversed-above}
 use Rattle.record6250.specs.Group.{stray}

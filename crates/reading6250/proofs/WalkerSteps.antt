@@ -39,7 +39,7 @@ use denote.Steps.{nothing}
 use denote.Enum.Laws as EL
 use denote.Struct.Laws as LL
 use denote.Triple.Statement.{Contract, Triple}
-use Rattle.indexed.proofs.Walk.{Callee, called-as, typed}
+use Rattle.walks.proofs.Walk.{Callee, called-as, typed}
 use Rattle.group_code.specs.Word.{readings}
 use Rattle.judge6250.specs.Judged.{toldJudged, toldChanged}
 use Rattle.judge6250.specs.declared.judge.Judged.{Judged}

@@ -1,11 +1,11 @@
 // One group of a reading, received and judged.
 use crate::received::receive;
-use crate::stray::lent_place;
 use group6250::group::Group;
 use judge6250::judge::Correction;
 use judge6250::judge::Judged;
 use judge6250::judge::judge;
 use rectangular::Code6250;
+use slices::turned_place;
 ghost use mathlib.Core.Bool.{true};
 ghost use mathlib.Core.Path.{_≡_};
 ghost use Prim.Native.Nat.{_<_};
@@ -28,8 +28,8 @@ pub(crate) fn judge_group(
     ensures told { λ r. ⌜ toldJudged r ≡ judgement backward (now (words .entry)) (now (maps .entry)) g ⌝ }
     ensures changed { λ r. ⌜ (isCorrected (toldJudged r) ≡ true → toldChanged r ≡ changedTracks backward (now (words .entry)) (now (maps .entry)) g) ⌝ }
 {
-    let place = lent_place(backward, maps.len(), g);
-    let received = receive(words, place * Code6250::WORDS, backward, table);
+    let place = turned_place(backward, maps.len(), g);
+    let received = receive(words, place * Code6250::NUMBERS, backward, table);
     let group = Group {
         tracks: received.tracks,
         parity: received.parity,

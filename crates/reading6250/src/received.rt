@@ -6,7 +6,7 @@ ghost use Prim.Native.Nat.{ℕ, _+_, _<_, _≤_};
 ghost use lib.ListN.{length, getD};
 ghost use Rattle.indexed.specs.List.{tabulate};
 ghost use Rattle.group_code.specs.Word.{valueOf, forwardWord, readings};
-ghost use Rattle.rectangular.specs.Constants.{tracks, wordsPerGroup};
+ghost use Rattle.rectangular.specs.Constants.{tracks, numbersPerGroup};
 ghost use Rattle.record6250.specs.Group.{illegalMap};
 ghost use Rattle.reading6250.specs.Received.{receivedValues};
 
@@ -19,12 +19,12 @@ pub(crate) struct Received {
 
 // The tracks with an illegal word among the nine from an index on.
 fn illegal_tracks(words: &[u16], at: usize, backward: bool, table: &[u16]) -> u16
-    requires { ⌜ (at + wordsPerGroup ≤ length (now words)) × ((k : ℕ) → getD (now words) k 0 < 1024) × (now table ≡ readings backward) ⌝ }
+    requires { ⌜ (at + numbersPerGroup ≤ length (now words)) × ((k : ℕ) → getD (now words) k 0 < 1024) × (now table ≡ readings backward) ⌝ }
     ensures { λ r. ⌜ r ≡ illegalMap (tabulate tracks (λ k. forwardWord backward (getD (now (words .entry)) (at + k) 0))) ⌝ }
 {
     let mut illegal: u16 = 0;
     let mut k = 0;
-    while k < Code6250::WORDS {
+    while k < Code6250::NUMBERS {
         let word = words[at + k] as usize;
         illegal = illegal + ((table[word] / 256) << k);
         k += 1;
@@ -35,7 +35,7 @@ fn illegal_tracks(words: &[u16], at: usize, backward: bool, table: &[u16]) -> u1
 // Receives the nine words from an index on, each by one look-up. Illegal words are rare: all are looked
 // for at once.
 pub(crate) fn receive(words: &[u16], at: usize, backward: bool, table: &[u16]) -> Received
-    requires { ⌜ (at + wordsPerGroup ≤ length (now words)) × ((k : ℕ) → getD (now words) k 0 < 1024) × (now table ≡ readings backward) ⌝ }
+    requires { ⌜ (at + numbersPerGroup ≤ length (now words)) × ((k : ℕ) → getD (now words) k 0 < 1024) × (now table ≡ readings backward) ⌝ }
     ensures values { λ r. ⌜ receivedValues r ≡ tabulate tracks (λ k. valueOf (forwardWord backward (getD (now (words .entry)) (at + k) 0))) ⌝ }
     ensures illegal { λ r. ⌜ r .illegal ≡ illegalMap (tabulate tracks (λ k. forwardWord backward (getD (now (words .entry)) (at + k) 0))) ⌝ }
 {
@@ -43,7 +43,7 @@ pub(crate) fn receive(words: &[u16], at: usize, backward: bool, table: &[u16]) -
     let mut parity: u8 = 0;
     let mut seen: u16 = 0;
     let mut k = 0;
-    while k < Code6250::WORDS {
+    while k < Code6250::NUMBERS {
         let word = words[at + k] as usize;
         let read = table[word];
         parity = (read % 256) as u8;

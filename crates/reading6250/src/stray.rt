@@ -1,21 +1,21 @@
 // Stray bits: words of more than ten bits, maps of more than nine.
 use rectangular::Code6250;
-use register::union;
+use slices::turned_place;
+use slices::union;
 ghost use mathlib.Core.Path.{_≡_};
-ghost use Prim.Native.Nat.{_+_, _*_, _<_, _≤_};
+ghost use Prim.Native.Nat.{_+_, _*_, _≤_};
 ghost use lib.ListN.{length};
-ghost use Rattle.indexed.specs.List.{turnedPlace};
-ghost use Rattle.rectangular.specs.Constants.{wordsPerGroup};
+ghost use Rattle.rectangular.specs.Constants.{numbersPerGroup};
 ghost use Rattle.record6250.specs.Read.{firstStray};
 ghost use Rattle.reading6250.specs.Stray.{strayAt};
 
 // Whether one of nine words from an index on, or the map, has a stray bit.
 fn is_stray(words: &[u16], at: usize, map: u16) -> bool
-    requires { ⌜ at + wordsPerGroup ≤ length (now words) ⌝ }
+    requires { ⌜ at + numbersPerGroup ≤ length (now words) ⌝ }
     ensures { λ r. ⌜ r ≡ strayAt (now (words .entry)) at map ⌝ }
 {
     let mut k = 0;
-    while k < Code6250::WORDS {
+    while k < Code6250::NUMBERS {
         if words[at + k] > Code6250::MOST_WORD {
             return true;
         }
@@ -24,18 +24,10 @@ fn is_stray(words: &[u16], at: usize, map: u16) -> bool
     map > Code6250::MOST_MAP
 }
 
-// The place of group g of a reading among the lent ones, of which a backward reading has the last first.
-pub(crate) fn lent_place(backward: bool, groups: usize, g: usize) -> usize
-    requires { ⌜ g < groups ⌝ }
-    ensures { λ r. ⌜ r ≡ turnedPlace backward groups g ⌝ }
-{
-    if backward { groups - 1 - g } else { g }
-}
-
 // The first group with a stray bit, or the number of groups. Where no bit is stray, as a rule, that is
 // seen from all words at once.
 pub fn first_stray(words: &[u16], maps: &[u16], backward: bool) -> usize
-    requires { ⌜ length (now words) ≡ wordsPerGroup * length (now maps) ⌝ }
+    requires { ⌜ length (now words) ≡ numbersPerGroup * length (now maps) ⌝ }
     ensures { λ r. ⌜ r ≡ firstStray backward (now (words .entry)) (now (maps .entry)) ⌝ }
 {
     let groups = maps.len();
@@ -46,8 +38,8 @@ pub fn first_stray(words: &[u16], maps: &[u16], backward: bool) -> usize
     }
     let mut g = 0;
     while g < groups {
-        let place = lent_place(backward, groups, g);
-        if is_stray(words, place * Code6250::WORDS, maps[place]) {
+        let place = turned_place(backward, groups, g);
+        if is_stray(words, place * Code6250::NUMBERS, maps[place]) {
             return g;
         }
         g += 1;

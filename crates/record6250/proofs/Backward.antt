@@ -10,7 +10,8 @@ use lib.Count.{ones}
 use lib.Dec.{leb, ltb}
 use lib.ListN.{length, getD, drop, length-append, length-drop, drop-of-length-le}
 use lib.Seq.{ext-getD}
-use Rattle.indexed.specs.List.{blocks, firstBelow, total, turnedPlace}
+use Rattle.indexed.specs.List.{blocks, firstBelow, total}
+use Rattle.slices.specs.Turned.{turnedPlace}
 use Rattle.indexed.proofs.Below.{first-below-same}
 use Rattle.indexed.proofs.Blocks.{blocks-same, getD-blocks}
 use Rattle.indexed.proofs.Tabulate.{length-tabulate, getD-tabulate}

@@ -7,14 +7,15 @@ use Prim.Native.Nat.{ℕ, _+_, _*_, _<_}
 use native.Mathlib.Omega.{arith}
 use lib.ListN.{length, getD, take, drop, length-drop}
 use lib.Seq.{ext-getD, length-take-le, getD-take, getD-drop}
-use Rattle.indexed.specs.List.{tabulate, turnedPlace}
+use Rattle.indexed.specs.List.{tabulate}
+use Rattle.slices.specs.Turned.{turnedPlace}
 use Rattle.indexed.proofs.Blocks.{length-blocks, blocks-same, getD-blocks, join-cuts}
 use Rattle.indexed.proofs.Tabulate.{length-tabulate, getD-tabulate, tabulate-same}
 use Rattle.group_code.specs.Word.{forwardWord}
 use Rattle.group_code.proofs.Words.{reversed-twice}
 use Rattle.record6250.specs.Picture.{groupRead, mapRead, pictureWords, pictureMaps}
 use Rattle.record6250.proofs.Reading.{length-read}
-use Rattle.indexed.proofs.Turned.{turned-lt, turned-twice}
+use Rattle.slices.proofs.Turned.{turned-lt, turned-twice}
 
 pub length-picture : (backward : Bool) (n : ℕ) (words : List ℕ) → length (pictureWords backward n words) ≡ 9 * n
 unfolding pictureWords

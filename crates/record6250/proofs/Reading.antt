@@ -9,7 +9,8 @@ use borrow.Author.Tests.{ltb-true, ltb-false, leb-true, eqb-true}
 use lib.Dec.{eqb, leb, ltb}
 use lib.ListN.{length, getD, drop, length-drop}
 use lib.Seq.{ext-getD, length-take-le}
-use Rattle.indexed.specs.List.{firstBelow, turnedPlace}
+use Rattle.indexed.specs.List.{firstBelow}
+use Rattle.slices.specs.Turned.{turnedPlace}
 use Rattle.indexed.proofs.Tabulate.{length-tabulate, getD-tabulate}
 use Rattle.indexed.proofs.Blocks.{getD-blocks}
 use Rattle.group_code.specs.Word.{forwardWord}

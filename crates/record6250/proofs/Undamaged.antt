@@ -13,7 +13,8 @@ use lib.Dec.{ltb}
 use lib.ListN.{length, getD, replicate, length-replicate, getD-replicate}
 use lib.Seq.{ext-getD}
 use Rattle.answer.specs.Answer.{delivered}
-use Rattle.indexed.specs.List.{tabulate, tabulateFrom, below, keep, firstBelow, turnedPlace}
+use Rattle.indexed.specs.List.{tabulate, tabulateFrom, below, keep, firstBelow}
+use Rattle.slices.specs.Turned.{turnedPlace}
 use Rattle.indexed.proofs.Differ.{differences-none, equal-of-no-differences}
 use Rattle.indexed.proofs.Tabulate.{tabulate-same}
 use Rattle.register.specs.Bit.{bit, ofBits}

@@ -12,13 +12,13 @@ use Rattle.answer.specs.declared.Reason.{Reason}
 use Rattle.answer.specs.declared.Reason.the-variants.{ManyPointed, NoGroup}
 use Rattle.group_code.specs.Code.{wordOf}
 use Rattle.group_code.specs.Word.{valueOf, illegality}
-use Rattle.rectangular.specs.Constants.{feedback, exponent, tracks, wordsPerGroup, mostWord, mostMap}
+use Rattle.rectangular.specs.Constants.{feedback, exponent, tracks, numbersPerGroup, mostWord, mostMap}
 use Rattle.rectangular.specs.Correction.{pointedTracks, Judgement, corrected, manyPointed, noGroup, judged}
 use Rattle.rectangular.specs.Group.{informationOf}
 
 -- a bit beyond its width: in a word of ten bits, or in a map of nine
 unfoldable pub stray : List ℕ → ℕ → Bool
-stray words pointers = ltb (firstBelow wordsPerGroup (λ k. ltb mostWord (getD words k 0))) wordsPerGroup || ltb mostMap pointers
+stray words pointers = ltb (firstBelow numbersPerGroup (λ k. ltb mostWord (getD words k 0))) numbersPerGroup || ltb mostMap pointers
 
 -- the tracks whose words are illegal, as a map
 unfoldable pub illegalMap : List ℕ → ℕ

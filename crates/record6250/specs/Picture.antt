@@ -5,14 +5,15 @@ use Prim.Native.Nat.{ℕ, _+_, _*_, _/_}
 use mathlib.Core.Bool.{Bool, true}
 use mathlib.Core.List.{List, _++_}
 use lib.ListN.{length, getD, drop}
-use Rattle.indexed.specs.List.{tabulate, blocks, turnedPlace}
+use Rattle.indexed.specs.List.{tabulate, blocks}
+use Rattle.slices.specs.Turned.{turnedPlace}
 use Rattle.group_code.specs.Word.{forwardWord}
-use Rattle.rectangular.specs.Constants.{tracks, wordsPerGroup}
+use Rattle.rectangular.specs.Constants.{tracks, numbersPerGroup}
 
 -- the words of group g
 unfoldable pub groupRead : Bool → ℕ → List ℕ → ℕ → List ℕ
 groupRead backward groups words g =
-    tabulate tracks (λ k. forwardWord backward (getD words (wordsPerGroup * turnedPlace backward groups g + k) 0))
+    tabulate tracks (λ k. forwardWord backward (getD words (numbersPerGroup * turnedPlace backward groups g + k) 0))
 
 -- the drive's pointer map for group g
 unfoldable pub mapRead : Bool → ℕ → List ℕ → ℕ → ℕ
@@ -27,4 +28,4 @@ pictureMaps backward maps = tabulate (length maps) (mapRead backward (length map
 
 -- words as they pass the head the other way. Where they are not nine a group, which is refused, what is left over stays behind.
 unfoldable pub turnedWords : List ℕ → List ℕ
-turnedWords words = pictureWords true (length words / wordsPerGroup) words ++ drop (wordsPerGroup * (length words / wordsPerGroup)) words
+turnedWords words = pictureWords true (length words / numbersPerGroup) words ++ drop (numbersPerGroup * (length words / numbersPerGroup)) words

@@ -10,14 +10,14 @@ use Rattle.indexed.specs.List.{blocks, firstBelow, total}
 use Rattle.indexed.specs.Test.{allBelow}
 use Rattle.answer.specs.Answer.{Answer, delivered, refusedFor}
 use Rattle.answer.specs.declared.Reason.the-variants.{Length, Space, StrayBits, Padding}
-use Rattle.rectangular.specs.Constants.{tracks, wordsPerGroup, bytesPerGroup, mostPadding, mostGroups}
+use Rattle.rectangular.specs.Constants.{tracks, numbersPerGroup, bytesPerGroup, mostPadding, mostGroups}
 use Rattle.rectangular.specs.Correction.{Judgement, changedMap}
 use Rattle.record6250.specs.Group.{stray, judgedGroup, isCorrected, reasonOf, rightBytes, rightWords}
 use Rattle.record6250.specs.Picture.{groupRead, mapRead}
 
 -- 1 to 586 groups, with nine words and one map for each
 unfoldable pub lengthsSuit : ℕ → ℕ → Bool
-lengthsSuit words maps = (ltb 0 maps && leb maps mostGroups) && eqb words (wordsPerGroup * maps)
+lengthsSuit words maps = (ltb 0 maps && leb maps mostGroups) && eqb words (numbersPerGroup * maps)
 
 -- the padding rule, of the corrected bytes: the last is not above 6, and as many bytes before it as it says are zero
 unfoldable pub lastByte : List ℕ → ℕ

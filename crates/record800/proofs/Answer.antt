@@ -10,7 +10,8 @@ use lib.Dec.{leb, ltb}
 use lib.ListN.{length}
 use Rattle.indexed.proofs.First.{first-le}
 use Rattle.indexed.proofs.Tabulate.{length-tabulate}
-use Rattle.answer.specs.Answer.{Answer, delivered, refused, refusedFor, firstAbove}
+use Rattle.answer.specs.Answer.{Answer, delivered, refused, refusedFor}
+use Rattle.slices.specs.Above.{firstAbove}
 use Rattle.answer.specs.declared.Reason.the-variants.{StrayBits}
 use Rattle.answer.proofs.Passed.{test-held, test-failed}
 use Rattle.cyclic.specs.Constants.{mostData}

@@ -5,7 +5,8 @@ use mathlib.Core.Bool.{Bool, true, false, cond, not}
 use mathlib.Core.List.{List}
 use Prim.Native.Nat.{ℕ, _-_}
 use lib.Dec.{leb, ltb}
-use Rattle.answer.specs.Answer.{Answer, refusedFor, firstAbove}
+use Rattle.answer.specs.Answer.{Answer, refusedFor}
+use Rattle.slices.specs.Above.{firstAbove}
 use Rattle.answer.specs.declared.Reason.the-variants.{Length, Space, StrayBits}
 use Rattle.record800.specs.Read.{picture, lengthSuits, firstStray, judgedAnswer, judgedData, readAnswer, readData}
 use Rattle.record800.proofs.Picture.{length-picture, picture-forward, picture-twice}

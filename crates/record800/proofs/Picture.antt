@@ -12,17 +12,17 @@ use borrow.Author.Tests.{leb-true, ltb-false, le-ltb}
 use lib.Dec.{leb, ltb}
 use lib.ListN.{length, getD, List·getD-eq-default}
 use lib.Seq.{ext-getD}
-use Rattle.answer.specs.Answer.{firstAbove}
-use Rattle.indexed.specs.List.{turnedPlace}
+use Rattle.slices.specs.Above.{firstAbove}
+use Rattle.slices.specs.Turned.{turnedPlace}
 use Rattle.indexed.proofs.First.{first-none, first-before}
 use Rattle.indexed.proofs.Tabulate.{length-tabulate, getD-tabulate}
-use Rattle.register.specs.Union.{unionOf}
-use Rattle.register.proofs.Or.{below-union}
+use Rattle.slices.specs.Union.{unionOf}
+use Rattle.slices.proofs.Or.{below-union}
 use Rattle.cyclic.specs.Constants.{leastData, mostData, checks}
 use Rattle.record800.specs.Fits.{Passes}
 use Rattle.record800.specs.Read.{picture, lengthSuits, firstStray}
 use Rattle.record800.proofs.Candidate.{both-true}
-use Rattle.indexed.proofs.Turned.{turned-lt, turned-twice}
+use Rattle.slices.proofs.Turned.{turned-lt, turned-twice}
 
 module _ (backward : Bool) (characters : List ℕ) where
   pub length-picture : length (picture backward characters) ≡ length characters

@@ -12,7 +12,8 @@ use lib.Bits.{xor-self}
 use lib.Dec.{ltb}
 use lib.ListN.{length, getD}
 use lib.Seq.{ext-getD}
-use Rattle.answer.specs.Answer.{delivered, firstAbove}
+use Rattle.answer.specs.Answer.{delivered}
+use Rattle.slices.specs.Above.{firstAbove}
 use Rattle.indexed.proofs.Differ.{equal-of-no-differences}
 use Rattle.indexed.proofs.First.{first-none}
 use Rattle.register.specs.Bit.{bit}

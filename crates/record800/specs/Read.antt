@@ -5,12 +5,14 @@ use mathlib.Core.Bool.{Bool, cond, _&&_}
 use mathlib.Core.List.{List, [], _∷_}
 use lib.Dec.{eqb, leb, ltb}
 use lib.ListN.{length, getD}
-use Rattle.indexed.specs.List.{tabulate, below, firstBelow, keep, total, turnedPlace}
+use Rattle.indexed.specs.List.{tabulate, below, firstBelow, keep, total}
+use Rattle.slices.specs.Turned.{turnedPlace}
 use Rattle.register.specs.Parity.{parity}
 use Rattle.register.specs.Shift.{shifts}
 use Rattle.register.specs.Sum.{xorSum}
 use Rattle.register.specs.Xor.{_⊕_}
-use Rattle.answer.specs.Answer.{Answer, delivered, refusedFor, firstAbove}
+use Rattle.answer.specs.Answer.{Answer, delivered, refusedFor}
+use Rattle.slices.specs.Above.{firstAbove}
 use Rattle.answer.specs.declared.Reason.the-variants.{Length, Space, StrayBits, NoRecord, SeveralRecords}
 use Rattle.cyclic.specs.Constants.{feedback, offset, tracks, mostCharacter, leastData, mostData, checks}
 use Rattle.record800.specs.Record.{checkSum}

@@ -12,12 +12,13 @@ feedback = 57
 abbrev pub exponent : ℕ
 exponent = 17
 
--- a group has nine tracks, is lent as nine words, and has seven information bytes
+-- A group has nine tracks, is lent as nine numbers, and has seven information bytes. That the first two are equal is how a group lies on
+-- tape (document 01: a word a track), and nothing else relies on it.
 abbrev pub tracks : ℕ
 tracks = 9
 
-abbrev pub wordsPerGroup : ℕ
-wordsPerGroup = 9
+abbrev pub numbersPerGroup : ℕ
+numbersPerGroup = 9
 
 abbrev pub bytesPerGroup : ℕ
 bytesPerGroup = 7

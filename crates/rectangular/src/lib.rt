@@ -17,8 +17,8 @@ impl Code6250 {
     pub const TRACKS: usize = 9;
     // P, the last of them.
     pub const PARITY_TRACK: usize = 8;
-    // The words in which a group is lent, one for each track.
-    pub const WORDS: usize = 9;
+    // The numbers in which a group is lent: words, one for each track.
+    pub const NUMBERS: usize = 9;
     // The information bytes of a group, B7 to B1.
     pub const BYTES: usize = 7;
     // The largest word, of ten bits.

@@ -1,6 +1,5 @@
 pub mod Xor
 pub mod And
-pub mod Or
 pub mod Bit
 pub mod Shift
 pub mod Sum

@@ -5,5 +5,4 @@ pub mod Sum
 pub mod Held
 pub mod Exponent
 pub mod Parity
-pub mod Union
 pub mod Matrix

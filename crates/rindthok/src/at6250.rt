@@ -1,11 +1,11 @@
 // Records at 6250 for C.
 use crate::refused_status;
+use answer::Written;
 use reader6250::Read;
-use writer6250::Written;
 ghost use mathlib.Core.Bool.{true, false};
 ghost use mathlib.Core.List.{[], _∷_};
 ghost use Rattle.reader6250.specs.Told.{toldRead};
-ghost use Rattle.writer6250.specs.Written.{toldWritten};
+ghost use Rattle.answer.specs.Answer.{toldWritten};
 ghost use Rattle.terms.specs.Call as Call;
 ghost use Rattle.terms.specs.Reading.{bpi6250, at6250};
 ghost use Rattle.rindthok.specs.Called.{Told, Called};

@@ -1,11 +1,11 @@
 // Records at 800 for C.
 use crate::refused_status;
+use answer::Written;
 use reader800::Read;
-use writer800::Written;
 ghost use mathlib.Core.Bool.{true, false};
 ghost use mathlib.Core.List.{[], _∷_};
 ghost use Rattle.reader800.specs.Told.{toldRead};
-ghost use Rattle.writer800.specs.Written.{toldWritten};
+ghost use Rattle.answer.specs.Answer.{toldWritten};
 ghost use Rattle.terms.specs.Call as Call;
 ghost use Rattle.terms.specs.Reading.{bpi800, at800};
 ghost use Rattle.rindthok.specs.Called.{Told, Called};

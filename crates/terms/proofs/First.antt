@@ -9,7 +9,8 @@ use native.Mathlib.Omega.{arith}
 use borrow.Author.Tests.{ltb-true, leb-true, eqb-true}
 use lib.Dec.{eqb, leb, ltb}
 use lib.ListN.{length}
-use Rattle.answer.specs.Answer.{Answer, delivered, refusedFor, firstAbove, outputAfter}
+use Rattle.answer.specs.Answer.{Answer, delivered, refusedFor, outputAfter}
+use Rattle.slices.specs.Above.{firstAbove}
 use Rattle.answer.specs.declared.Reason.the-variants.{Length, Space, StrayBits, Padding, NoRecord, SeveralRecords}
 use Rattle.answer.proofs.Listed.{Listed, listed-delivery, listed-at, listed-refusal, listed-choice}
 use Rattle.answer.proofs.Passed.{test-held}

@@ -3,7 +3,8 @@
 use mathlib.Core.Path.{_≡_, refl}
 use mathlib.Core.List.{map}
 use lib.Count.{ones, onesIn}
-use Rattle.indexed.specs.List.{tabulate, tabulateFrom, blocks, firstWhere, below, firstBelow, keep, turnedPlace, total}
+use Rattle.indexed.specs.List.{tabulate, tabulateFrom, blocks, firstWhere, below, firstBelow, keep, total}
+use Rattle.slices.specs.Turned.{turnedPlace}
 use Rattle.register.specs.Bit.{bit, ofBits}
 use Rattle.register.specs.Held.{held}
 use Rattle.register.specs.Shift.{shift, shifts}
@@ -15,7 +16,7 @@ use Rattle.rectangular.specs.Correction.{pointedTracks, paritySyndrome, checkSy
 use Rattle.rectangular.specs.Group.{information, check, character, column, track, group, informationOf}
 use Rattle.rectangular.specs.Correction.{changedMap}
 use Rattle.register.specs.Parity.{parity, parityDigits}
-use Rattle.answer.specs.Answer.{firstAbove}
+use Rattle.slices.specs.Above.{firstAbove}
 use Rattle.record800.specs.Read as eightRead
 use Rattle.record800.specs.Record as eight
 use Rattle.record800.specs.Written as eightWritten

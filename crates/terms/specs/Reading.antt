@@ -7,7 +7,7 @@ use mathlib.Core.Path.{_≡_}
 use Prim.Native.Nat.{ℕ, _-_, _*_, _/_, _≤_}
 use lib.ListN.{length, getD, replicate}
 use Rattle.answer.specs.Answer.{Answer}
-use Rattle.rectangular.specs.Constants.{wordsPerGroup, bytesPerGroup}
+use Rattle.rectangular.specs.Constants.{numbersPerGroup, bytesPerGroup}
 use Rattle.cyclic.specs.Constants.{checks}
 use Rattle.record6250.specs.Fits as six
 use Rattle.record6250.specs.Picture as sixPicture
@@ -59,8 +59,8 @@ turned (at800 backward characters) = at800 (not backward) (eightRead.picture tru
 
 -- words or characters read undamaged, with no track pointed: forward, or turned, backward
 unfoldable pub undamaged : Density → Bool → List ℕ → Reading
-undamaged bpi6250 false words = at6250 false words (replicate (length words / wordsPerGroup) 0)
-undamaged bpi6250 true words = turned (at6250 false words (replicate (length words / wordsPerGroup) 0))
+undamaged bpi6250 false words = at6250 false words (replicate (length words / numbersPerGroup) 0)
+undamaged bpi6250 true words = turned (at6250 false words (replicate (length words / numbersPerGroup) 0))
 undamaged bpi800 false characters = at800 false characters
 undamaged bpi800 true characters = turned (at800 false characters)
 

@@ -9,7 +9,7 @@ use Prim.{Unit}
 use Prim.Native.Nat.{ℕ, _*_, _<_, _≤_}
 use lib.ListN.{length, getD, take, drop}
 use Rattle.answer.specs.Answer.{Answer, delivered, refused, refusals, outputAfter}
-use Rattle.rectangular.specs.Constants.{wordsPerGroup}
+use Rattle.rectangular.specs.Constants.{numbersPerGroup}
 use Rattle.terms.specs.Call.{Call, write, read, wordsToPhysical, wordsToAlgebraic, mapToPhysical, mapToAlgebraic, resultOf, places}
 use Rattle.terms.specs.Reading.{Density, bpi6250, bpi800, Reading, density, isBackward, received, IsData, writtenRecord, turned, undamaged, Enough, Passes, Fits, OneFits, told, unchanged, lengthTold, changesTold, readAnswer, readData}
 
@@ -27,7 +27,7 @@ FirstTerm call (refused number place) before after =
 
 -- the front of the output of a writer that delivered: so many groups of nine words, or so many characters
 unfoldable pub recordStored : Density → List ℕ → List ℕ → List ℕ
-recordStored bpi6250 figures after = take (wordsPerGroup * getD figures 0 0) after
+recordStored bpi6250 figures after = take (numbersPerGroup * getD figures 0 0) after
 recordStored bpi800 figures after = take (getD figures 0 0) after
 
 -- "What is written is what [the papers] prescribe. A written record, read undamaged, with space enough and no track pointed, gives its data

@@ -5,7 +5,8 @@ use mathlib.Core.Bool.{cond}
 use mathlib.Core.List.{List, [], _∷_}
 use lib.Dec.{leb, ltb, eqb}
 use lib.ListN.{length}
-use Rattle.answer.specs.Answer.{Answer, delivered, refusedFor, firstAbove}
+use Rattle.answer.specs.Answer.{Answer, delivered, refusedFor}
+use Rattle.slices.specs.Above.{firstAbove}
 use Rattle.answer.specs.declared.Reason.the-variants.{Length, Space, StrayBits}
 use Rattle.rectangular.specs.Constants.{tracks, mostWord, mostMap}
 

@@ -15,7 +15,7 @@ use Rattle.rectangular.specs.Constants.{feedback}
 use Rattle.rectangular.specs.Group.{group}
 use Rattle.record6250.specs.Record.{body, groupsFor, groupBytes, groupWords, firstGroups, writtenRecord}
 use Rattle.record6250.proofs.Record.{length-groupWords, length-record}
-use Rattle.writer6250.specs.Written.{groupsStored}
+use Rattle.writer6250.specs.Stored.{groupsStored}
 use Rattle.writer6250.proofs.Body.{full-group}
 
 -- the group that is written from the part of the data that begins with it

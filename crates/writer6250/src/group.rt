@@ -7,16 +7,16 @@ ghost use mathlib.Core.List.{_++_, map};
 ghost use Prim.Native.Nat.{_≤_};
 ghost use lib.ListN.{length, drop};
 ghost use Rattle.group_code.specs.Code.{wordOf};
-ghost use Rattle.rectangular.specs.Constants.{wordsPerGroup};
+ghost use Rattle.rectangular.specs.Constants.{numbersPerGroup};
 ghost use Rattle.group6250.specs.Packed.{valuesOf};
 
 // Stores a group's nine words at the front.
 pub(crate) fn store(words: &mut [u16], group: Group)
-    requires { ⌜ wordsPerGroup ≤ length (now words) ⌝ }
-    ensures { λ _. ⌜ now (words .exit) ≡ map wordOf (valuesOf group) ++ drop wordsPerGroup (now (words .entry)) ⌝ }
+    requires { ⌜ numbersPerGroup ≤ length (now words) ⌝ }
+    ensures { λ _. ⌜ now (words .exit) ≡ map wordOf (valuesOf group) ++ drop numbersPerGroup (now (words .entry)) ⌝ }
 {
     let mut j = 0;
-    while j < Code6250::WORDS {
+    while j < Code6250::NUMBERS {
         words[j] = word(group.value(j));
         j += 1;
     }

@@ -2,11 +2,4 @@
 mod group;
 mod writer;
 
-use answer::Refusal;
 pub use writer::write;
-
-// What writing a record answers: the number of its groups, or the refusal.
-pub enum Written {
-    Delivered(usize),
-    Refused(Refusal),
-}

@@ -1,18 +1,18 @@
 // Writing a record.
-use crate::Written;
 use crate::group::store;
 use answer::Reason;
 use answer::Refusal;
+use answer::Written;
 use group6250::group::written;
 use rectangular::Code6250;
 ghost use mathlib.Core.Path.{_≡_};
 ghost use Prim.Native.Nat.{_*_, _/_, _≤_};
 ghost use lib.ListN.{length};
-ghost use Rattle.answer.specs.Answer.{outputAfter};
-ghost use Rattle.rectangular.specs.Constants.{wordsPerGroup, bytesPerGroup};
+ghost use Rattle.answer.specs.Answer.{toldWritten, outputAfter};
+ghost use Rattle.rectangular.specs.Constants.{numbersPerGroup, bytesPerGroup};
 ghost use Rattle.record6250.specs.Record.{body, groupBytes, writtenRecord};
 ghost use Rattle.record6250.specs.Written.{writeAnswer};
-ghost use Rattle.writer6250.specs.Written.{toldWritten, groupsStored};
+ghost use Rattle.writer6250.specs.Stored.{groupsStored};
 ghost use Rattle.terms.specs.Call as Call;
 ghost use Rattle.terms.specs.Reading.{bpi6250};
 ghost use Rattle.terms.specs.Terms.{Terms};
@@ -39,14 +39,14 @@ fn last_group(bytes: &[u8]) -> [u8; Code6250::BYTES]
 // Writes the groups that are full of data. Both calls of it share one compiled loop, so that
 // each table is compiled in at one place (decision D11).
 fn write_groups(bytes: &[u8], words: &mut [u16])
-    requires { ⌜ wordsPerGroup * (length (now bytes) / bytesPerGroup) ≤ length (now words) ⌝ }
+    requires { ⌜ numbersPerGroup * (length (now bytes) / bytesPerGroup) ≤ length (now words) ⌝ }
     ensures { λ _. ⌜ now (words .exit) ≡ groupsStored (length (now (bytes .entry)) / bytesPerGroup) (now (bytes .entry)) (now (words .entry)) ⌝ }
 {
     let full = bytes.len() / Code6250::BYTES;
     let mut g = 0;
     while g < full {
         let from = g * Code6250::BYTES;
-        let to = g * Code6250::WORDS;
+        let to = g * Code6250::NUMBERS;
         store(&mut words[to..], written(&bytes[from..]));
         g += 1;
     }
@@ -65,7 +65,7 @@ pub fn write(bytes: &[u8], words: &mut [u16]) -> Written
         });
     }
     let full = bytes.len() / Code6250::BYTES;
-    if words.len() < (full + 1) * Code6250::WORDS {
+    if words.len() < (full + 1) * Code6250::NUMBERS {
         return Written::Refused(Refusal {
             reason: Reason::Space,
             place: 0,
@@ -73,7 +73,7 @@ pub fn write(bytes: &[u8], words: &mut [u16]) -> Written
     }
     write_groups(bytes, words);
     let last = last_group(bytes);
-    let to = full * Code6250::WORDS;
+    let to = full * Code6250::NUMBERS;
     write_groups(&last, &mut words[to..]);
     Written::Delivered(full + 1)
 }

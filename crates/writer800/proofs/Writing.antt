@@ -18,7 +18,7 @@ use Rattle.answer.specs.Answer.{Answer, delivered, refused}
 use Rattle.cyclic.specs.Constants.{feedback, timesX}
 use Rattle.record800.specs.Record.{characterOf, checkSum, checkCharacter, longitudinal, withCheck, writtenRecord}
 use Rattle.record800.specs.Written.{writeAnswer}
-use Rattle.writer800.specs.Written.{stored}
+use Rattle.writer800.specs.Stored.{stored}
 use Rattle.record800.proofs.Recorded.{character-lt, length-record, longitudinal-more}
 
 -- ---- the answer

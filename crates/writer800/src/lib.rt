@@ -2,11 +2,4 @@
 mod character;
 mod writer;
 
-use answer::Refusal;
 pub use writer::write;
-
-// What writing a record answers: the number of its characters, or the refusal.
-pub enum Written {
-    Delivered(usize),
-    Refused(Refusal),
-}

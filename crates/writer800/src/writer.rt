@@ -1,18 +1,18 @@
 // Writing a record.
-use crate::Written;
 use crate::character::data_characters;
 use answer::Reason;
 use answer::Refusal;
+use answer::Written;
 use cyclic::Code800;
 use cyclic::shift;
 ghost use mathlib.Core.Path.{_≡_};
 ghost use Prim.Native.Nat.{_+_, _≤_};
 ghost use lib.ListN.{length};
 ghost use Rattle.indexed.specs.List.{tabulate};
-ghost use Rattle.answer.specs.Answer.{outputAfter};
+ghost use Rattle.answer.specs.Answer.{toldWritten, outputAfter};
 ghost use Rattle.record800.specs.Record.{characterOf, writtenRecord};
 ghost use Rattle.record800.specs.Written.{writeAnswer};
-ghost use Rattle.writer800.specs.Written.{toldWritten, stored, sumsAre};
+ghost use Rattle.writer800.specs.Stored.{stored, sumsAre};
 ghost use Rattle.terms.specs.Call as Call;
 ghost use Rattle.terms.specs.Reading.{bpi800};
 ghost use Rattle.terms.specs.Terms.{Terms};

@@ -31,7 +31,7 @@ use denote.Triple.Statement.{Contract, Triple}
 use denote.Triple.Table.{cited}
 use denote.Triple.Walked.{says, needs, Stays, stay-ref, stay-dropped, walkOf, goes-ref, goes-dropped, ends-at}
 use denote.Exit.{yes}
-use Rattle.indexed.proofs.Walk.{Callee, called, lent, typed, opened, shut, freed, framed, meets}
+use Rattle.walks.proofs.Walk.{Callee, called, lent, typed, opened, shut, freed, framed, meets}
 use Rattle.cyclic.specs.Step.{Advanced}
 use Rattle.cyclic.specs.declared.Code800.{Code800}
 use Rattle.cyclic.proofs.Code800.{the-type, the-row}

@@ -10,7 +10,7 @@ use denote.Ref.{now}
 use lib.Dec.{ltb}
 use lib.ListN.{length}
 use Rattle.indexed.proofs.First.{NoneBelow, first-at, first-none}
-use Rattle.answer.specs.Answer.{firstAbove}
+use Rattle.slices.specs.Above.{firstAbove}
 use Rattle.record800.specs.Read.{picture, firstStray}
 use Rattle.record800.proofs.Picture.{length-picture, none-stray}
 use Rattle.reader800.proofs.reader.first_stray.Statement.{statement}

@@ -5,7 +5,7 @@ use mathlib.Core.Bool.{Bool, cond}
 use Prim.Native.Nat.{_-_}
 use denote.Ref.{now}
 use lib.ListN.{length, getD}
-use Rattle.indexed.specs.List.{turnedPlace}
+use Rattle.slices.specs.Turned.{turnedPlace}
 use Rattle.record800.proofs.Picture.{getD-picture}
 use borrow.Author.Needs.{needs}
 use Rattle.reader800.proofs.reader.forward_character.Statement.{statement}

@@ -19,7 +19,7 @@ use Rattle.record6250.proofs.Reading.{words-long, map-below}
 use borrow.Author.Needs.{needs}
 use Rattle.reading6250.proofs.group.judge_group.Statement.{statement}
 use Rattle.reading6250.proofs.group.judge_group.Tie as tie
-use Rattle.indexed.proofs.Turned.{turned-lt}
+use Rattle.slices.proofs.Turned.{turned-lt}
 
 lent-place-requires : tie.Need-lent-place-requires
 lent-place-requires c κs = search needs

@@ -27,7 +27,7 @@ use denote.Slice.{slice-vals, shr-slice-tells}
 use denote.Struct.Rest.{own-shut}
 use denote.Triple.Entry.{onEntry}
 use denote.Triple.Statement.{Contract}
-use Rattle.indexed.proofs.Walk.{WalkSpent, ends, shown, freed, meets-spent}
+use Rattle.walks.proofs.Walk.{WalkSpent, ends, shown, freed, meets-spent}
 use Rattle.reading6250.proofs.WalkerSteps.{Words, Row, in-signature, val, walker, words-typed}
 use Rattle.reading6250.proofs.walker.GroupWalker.{the-type}
 use Rattle.reading6250.proofs.walker.GroupWalker.Laws.{the-laws, lowered}

@@ -30,7 +30,7 @@ use denote.Steps.{owned}
 use denote.Triple.Entry.{onEntry}
 use denote.Triple.Statement.{Contract, Triple}
 use denote.Triple.Table.{cited}
-use Rattle.indexed.proofs.Walk.{WalkSpent, ends, shown, freed, framed, meets-spent}
+use Rattle.walks.proofs.Walk.{WalkSpent, ends, shown, freed, framed, meets-spent}
 use Rattle.reading6250.proofs.WalkerSteps.{Words, AtGroup, val, walker, words-typed, walker-typed, made}
 use Rattle.reading6250.proofs.walker.GroupWalker.Laws.{lowered}
 use Rattle.reading6250.proofs.walker.at_group.Symbol.{name as #at-group, routine as at-group-routine}

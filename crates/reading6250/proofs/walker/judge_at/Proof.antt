@@ -29,7 +29,7 @@ use denote.Triple.Entry.{onEntry}
 use denote.Triple.Statement.{Contract, Triple}
 use denote.Triple.Table.{cited}
 use denote.Triple.Walked.{needs}
-use Rattle.indexed.proofs.Walk.{Callee, called-as, WalkSpent, ends, shown, both-shown, both-said, freed, framed, meets-spent}
+use Rattle.walks.proofs.Walk.{Callee, called-as, WalkSpent, ends, shown, both-shown, both-said, freed, framed, meets-spent}
 use Rattle.reading6250.proofs.WalkerSteps.{Words, AtGroup, Tokens, Told, val, walker, words-typed, walker-typed, judgement-typed, made, others, other-vals, Asked, judgement-val, judgement-tells}
 use Rattle.reading6250.proofs.walker.GroupWalker.Laws.{lowered}
 use Rattle.reading6250.proofs.walker.at_group.Symbol.{name as #at-group, routine as at-group-routine}

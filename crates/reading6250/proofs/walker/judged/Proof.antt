@@ -31,7 +31,7 @@ use denote.Triple.Entry.{onEntry}
 use denote.Triple.Statement.{Contract, Triple}
 use denote.Triple.Table.{cited}
 use denote.Triple.Walked.{needs}
-use Rattle.indexed.proofs.Walk.{Callee, called-as, WalkSpent, ends, shown, both-shown, both-said, freed, framed, meets-spent}
+use Rattle.walks.proofs.Walk.{Callee, called-as, WalkSpent, ends, shown, both-shown, both-said, freed, framed, meets-spent}
 use Rattle.reading6250.specs.declared.walker.GroupWalker.{GroupWalker}
 use Rattle.reading6250.proofs.WalkerSteps.{Words, Row, Tokens, Told, in-signature, val, words-typed, walker-typed, judgement-typed, others, other-vals, Asked, walker-tells, judgement-val, judgement-tells}
 use Rattle.reading6250.proofs.group.judge_group as judge_group

@@ -28,7 +28,7 @@ use denote.Struct.Rest.{own-put}
 use denote.Triple.Entry.{onEntry}
 use denote.Triple.Statement.{Contract}
 use denote.Triple.Walked.{needs}
-use Rattle.indexed.proofs.Walk.{WalkSpent, ends, shown, freed, meets-spent}
+use Rattle.walks.proofs.Walk.{WalkSpent, ends, shown, freed, meets-spent}
 use Rattle.rectangular.specs.Constants.{mostGroups}
 use Rattle.reading6250.specs.declared.walker.GroupWalker.{GroupWalker}
 use Rattle.reading6250.proofs.WalkerSteps.{Row, in-signature, val, walker, walker-typed, walker-tells}

@@ -30,7 +30,7 @@ use denote.Triple.Entry.{onEntry}
 use denote.Triple.Statement.{Contract, Triple}
 use denote.Triple.Table.{cited}
 use denote.Triple.Walked.{needs}
-use Rattle.indexed.proofs.Walk.{Callee, called-as, WalkSpent, ends, shown, freed, framed, meets-spent}
+use Rattle.walks.proofs.Walk.{Callee, called-as, WalkSpent, ends, shown, freed, framed, meets-spent}
 use Rattle.rectangular.specs.Constants.{mostGroups}
 use Rattle.reading6250.proofs.WalkerSteps.{Words, AtGroup, val, walker, words-typed, walker-typed, made, walker-tells}
 use Rattle.reading6250.proofs.walker.GroupWalker.Laws.{lowered}

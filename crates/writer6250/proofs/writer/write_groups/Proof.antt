@@ -9,7 +9,7 @@ use lib.ListN.{length, length-drop}
 use Rattle.indexed.specs.List.{blocks}
 use Rattle.indexed.proofs.Part.{part-to-end}
 use Rattle.record6250.specs.Record.{firstGroups}
-use Rattle.writer6250.specs.Written.{groupsStored}
+use Rattle.writer6250.specs.Stored.{groupsStored}
 use Rattle.writer6250.proofs.Stored.{full-words, one-more}
 use Rattle.writer6250.proofs.writer.write_groups.Statement.{statement}
 use Rattle.writer6250.proofs.writer.write_groups.Tie as tie

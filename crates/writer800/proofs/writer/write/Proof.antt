@@ -9,7 +9,7 @@ use denote.Ref.{now}
 use lib.ListN.{length, getD, set, length-set}
 use Rattle.register.specs.Xor.{_⊕_}
 use Rattle.answer.specs.Answer.{outputAfter}
-use Rattle.writer800.specs.Written.{stored}
+use Rattle.writer800.specs.Stored.{stored}
 use Rattle.terms.proofs.Terms.{with-terms}
 use Rattle.terms.specs.Call.{write, answerTo, resultOf}
 use Rattle.terms.specs.Reading.{bpi800, writtenRecord}

@@ -20,7 +20,7 @@ use Rattle.register.proofs.Held.{held-next}
 use Rattle.register.proofs.Sum.{sum-ext, sum-last}
 use Rattle.cyclic.specs.Constants.{feedback, timesX}
 use Rattle.record800.specs.Record.{characterOf, checkSum, longitudinal}
-use Rattle.writer800.specs.Written.{stored}
+use Rattle.writer800.specs.Stored.{stored}
 use Rattle.record800.proofs.Recorded.{character-lt}
 use Rattle.writer800.proofs.Writing.{check-fits}
 use Rattle.writer800.proofs.writer.write_data.Statement.{statement}

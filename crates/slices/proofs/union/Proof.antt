@@ -1,4 +1,4 @@
--- `register::union` meets its contract. The loop's invariant: the first `k` values are gathered.
+-- `slices::union` meets its contract. The loop's invariant: the first `k` values are gathered.
 -- Assumes nothing.
 use mathlib.Core.Path.{_≡_, refl, sym, ap, _∙_}
 use Prim.Native.Nat.{ℕ, _-_, _≤_}
@@ -7,10 +7,10 @@ use native.Mathlib.Numerals.{add-one}
 use denote.Ref.{now}
 use lib.ListN.{length, getD}
 use lib.Bits.{bitOr}
-use Rattle.register.specs.Union.{unionTo, unionOf}
+use Rattle.slices.specs.Union.{unionTo, unionOf}
 use borrow.Author.Needs.{needs}
-use Rattle.register.proofs.union.Statement.{statement}
-use Rattle.register.proofs.union.Tie as tie
+use Rattle.slices.proofs.union.Statement.{statement}
+use Rattle.slices.proofs.union.Tie as tie
 
 abbrev Inv-loop : tie.InvT-loop
 Inv-loop values bits₀ k₀ bits k = (k ≤ length values) × (bits ≡ unionTo k values)

@@ -4,7 +4,7 @@ use mathlib.Core.Path.{_≡_, refl}
 use mathlib.Core.Bool.{Bool, true, false}
 use Prim.Native.Nat.{ℕ, _<_}
 use native.Mathlib.Omega.{arith}
-use Rattle.indexed.specs.List.{turnedPlace}
+use Rattle.slices.specs.Turned.{turnedPlace}
 
 pub turned-lt : (backward : Bool) (n k : ℕ) → k < n → turnedPlace backward n k < n
 unfolding turnedPlace

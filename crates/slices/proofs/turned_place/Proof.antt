@@ -1,12 +1,12 @@
--- `marks::forward::turned_place` meets its contract.
+-- `slices::turned_place` meets its contract.
 -- Assumes nothing.
 use Prim.Native.Nat.{_-_}
 use mathlib.Core.Path.{sym, ap}
 use mathlib.Core.Bool.{Bool, cond}
 use borrow.Author.Needs.{needs}
-use Rattle.indexed.specs.List.{turnedPlace}
-use Rattle.marks.proofs.forward.turned_place.Statement.{statement}
-use Rattle.marks.proofs.forward.turned_place.Tie as tie
+use Rattle.slices.specs.Turned.{turnedPlace}
+use Rattle.slices.proofs.turned_place.Statement.{statement}
+use Rattle.slices.proofs.turned_place.Tie as tie
 
 sub-result : tie.Need-sub-result
 sub-result c = search needs

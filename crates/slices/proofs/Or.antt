@@ -8,7 +8,7 @@ use native.Mathlib.Nat.{le-trans, lt-of-le-of-lt, not-suc-le-zero}
 use native.Mathlib.Omega.{arith}
 use lib.Bits.{bitOr, or-add-and, and-le-l, and-le-r}
 use lib.ListN.{length, getD}
-use Rattle.register.specs.Union.{unionTo, unionOf}
+use Rattle.slices.specs.Union.{unionTo, unionOf}
 
 or-above : (a b : ℕ) → (a ≤ bitOr a b) × (b ≤ bitOr a b)
 or-above a b = (omega (arith, or-add-and a b, and-le-r a b), omega (arith, or-add-and a b, and-le-l a b))

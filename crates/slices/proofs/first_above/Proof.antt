@@ -1,4 +1,4 @@
--- `answer::first_above` meets its contract. The loop's invariant: none of the values passed is above the limit.
+-- `slices::first_above` meets its contract. The loop's invariant: none of the values passed is above the limit.
 -- Assumes nothing.
 use Prim.Native.Nat.{_≤_, _-_}
 use mathlib.Core.Path.{sym}
@@ -9,9 +9,9 @@ use borrow.Author.Tests.{lt-ltb, le-ltb}
 use lib.Dec.{ltb}
 use lib.ListN.{length}
 use Rattle.indexed.proofs.First.{NoneBelow, first-at, first-none}
-use Rattle.answer.specs.Answer.{firstAbove}
-use Rattle.answer.proofs.first_above.Statement.{statement}
-use Rattle.answer.proofs.first_above.Tie as tie
+use Rattle.slices.specs.Above.{firstAbove}
+use Rattle.slices.proofs.first_above.Statement.{statement}
+use Rattle.slices.proofs.first_above.Tie as tie
 
 abbrev Inv-loop : tie.InvT-loop
 Inv-loop values limit i₀ i = (i ≤ length values) × NoneBelow (λ v. ltb limit v) values i

@@ -1,19 +1,11 @@
--- What the code tells of writing an 800 record, and what its loop has stored.
+-- What the loop of writing an 800 record has stored and gathered.
 -- Assumes nothing.
-use mathlib.Core.List.{List, [], _∷_, _++_, map}
+use mathlib.Core.List.{List, _++_, map}
 use mathlib.Core.Path.{_≡_}
 use Prim.Native.Nat.{ℕ}
 use lib.ListN.{length, getD, drop}
-use Rattle.answer.specs.Answer.{Answer, delivered, toldRefusal}
 use Rattle.record800.specs.Record.{characterOf, checkSum, longitudinal}
-use Rattle.writer800.specs.declared.Written.{Written}
-use Rattle.writer800.specs.declared.Written.the-variants.{Delivered, Refused}
 use Rattle.writer800.specs.declared.writer.Sums as code
-
--- a delivery tells the number of characters
-abbrev pub toldWritten : Written → Answer
-toldWritten (Delivered characters) = delivered (characters ∷ [])
-toldWritten (Refused r) = toldRefusal r
 
 -- the data characters in front of the output
 unfoldable pub stored : List ℕ → List ℕ → List ℕ

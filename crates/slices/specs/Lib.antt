@@ -1,0 +1,3 @@
+pub mod Union
+pub mod Above
+pub mod Turned
