@@ -21,16 +21,16 @@ use Rattle.reading6250.proofs.group.judge_group.Statement.{statement}
 use Rattle.reading6250.proofs.group.judge_group.Tie as tie
 use Rattle.slices.proofs.Turned.{turned-lt}
 
-lent-place-requires : tie.Need-lent-place-requires
-lent-place-requires c κs = search needs
+turned-place-requires : tie.Need-turned-place-requires
+turned-place-requires c κs = search needs
 
 mul-receive : tie.Need-mul-receive
 mul-receive c =
     let start = c .before .before .before .before in
     let words = now (start .args .words) in
     let maps = now (start .args .maps) in
-    let within : c .lent-place .result < length maps =
-    rw (c .lent-place .ensures) (turned-lt (start .args .backward) (length maps) (start .args .g) (start .pre .1)) in
+    let within : c .turned-place .result < length maps =
+    rw (c .turned-place .ensures .0) (turned-lt (start .args .backward) (length maps) (start .args .g) (start .pre .1)) in
     omega (arith, words-long (start .args .backward) words maps (start .pre .0))
 
 receive-requires : tie.Need-receive-requires
@@ -38,8 +38,8 @@ receive-requires c κs =
     let start = c .before .before .before .before in
     let words = now (start .args .words) in
     let maps = now (start .args .maps) in
-    let within : c .lent-place .result < length maps =
-    rw (c .lent-place .ensures) (turned-lt (start .args .backward) (length maps) (start .args .g) (start .pre .1)) in (
+    let within : c .turned-place .result < length maps =
+    rw (c .turned-place .ensures .0) (turned-lt (start .args .backward) (length maps) (start .args .g) (start .pre .1)) in (
       omega (arith, words-long (start .args .backward) words maps (start .pre .0)),
       lent-below (start .args .backward) words maps (start .pre .0),
       start .pre .2,
@@ -50,8 +50,8 @@ mul-judge c =
     let start = c .before .before .before .before .before in
     let words = now (start .args .words) in
     let maps = now (start .args .maps) in
-    let within : c .before .lent-place .result < length maps =
-    rw (c .before .lent-place .ensures) (turned-lt (start .args .backward) (length maps) (start .args .g) (start .pre .1)) in
+    let within : c .before .turned-place .result < length maps =
+    rw (c .before .turned-place .ensures .0) (turned-lt (start .args .backward) (length maps) (start .args .g) (start .pre .1)) in
     omega arith
 
 shared-slice-read-judge : tie.Need-shared-slice-read-judge
@@ -59,8 +59,8 @@ shared-slice-read-judge c =
     let start = c .before .before .before .before .before .before in
     let words = now (start .args .words) in
     let maps = now (start .args .maps) in
-    let within : c .before .before .lent-place .result < length maps =
-    rw (c .before .before .lent-place .ensures) (turned-lt (start .args .backward) (length maps) (start .args .g) (start .pre .1)) in
+    let within : c .before .before .turned-place .result < length maps =
+    rw (c .before .before .turned-place .ensures .0) (turned-lt (start .args .backward) (length maps) (start .args .g) (start .pre .1)) in
     within
 
 judge-requires : tie.Need-judge-requires
@@ -69,10 +69,10 @@ judge-requires c κs =
     let start = c .before .before .before .before .before .before .before in
     let words = now (start .args .words) in
     let maps = now (start .args .maps) in
-    let place = c .before .before .before .lent-place in
+    let place = c .before .before .before .turned-place in
     let received = c .before .before .receive in
     or-lt 9 (getD maps (place .result) 0) (received .result .illegal)
-    (rw (lent-map (start .args .backward) words maps (start .args .g) (place .result) (place .ensures))
+    (rw (lent-map (start .args .backward) words maps (start .args .g) (place .result) (place .ensures .0))
     (map-below (start .args .backward) words maps (start .pre .0) (start .args .g) (start .pre .1)))
     (rw (received .ensures .1) (tabulated-lt 9 _ (λ k h. illegality-lt _)))
 
@@ -94,18 +94,18 @@ returns c =
     let b = start .args .backward in
     let g = start .args .g in
     let received = c .before .before .before .before .before .before .before .before .receive in
-    let place = c .before .before .before .before .before .before .before .before .before .lent-place in
+    let place = c .before .before .before .before .before .before .before .before .before .turned-place in
     let group : Group = record { tracks = received .result .tracks; parity = received .result .parity } in
-    let fits = judgement-told b words maps g (place .result) (place .ensures) group (received .result .illegal) (received .ensures .0) (received .ensures .1) in
+    let fits = judgement-told b words maps g (place .result) (place .ensures .0) group (received .result .illegal) (received .ensures .0) (received .ensures .1) in
     let judged = c .before .before .before .before .before .judge in
     let right = c .before .before .before .right .given in
     let told : corrected (correctedValues (right .0 .0)) ≡ _ = sym (ap toldJudged (right .1)) ∙ judged .ensures .0 ∙ fits in (
       told,
       λ q.
           ap₂ bitOr (sym (ap toldChanged (right .1)) ∙ judged .ensures .1 ∙ ap (changedBy _) (ap toldJudged (right .1)))
-          (received .ensures .1 ∙ ap illegalMap (lent-group b words maps g (place .result) (place .ensures)))
+          (received .ensures .1 ∙ ap illegalMap (lent-group b words maps g (place .result) (place .ensures .0)))
           ∙ changed-told b words maps (start .pre .0) g (start .pre .1) _ (correctedValues (right .0 .0))
-          (value-at b words maps g (place .result) (place .ensures) group (received .result .illegal) (received .ensures .0) (received .ensures .1))
+          (value-at b words maps g (place .result) (place .ensures .0) group (received .result .illegal) (received .ensures .0) (received .ensures .1))
           (sym told),
     )
 
@@ -118,9 +118,9 @@ returns-2 c =
     let b = start .args .backward in
     let g = start .args .g in
     let received = c .before .before .before .before .before .receive in
-    let place = c .before .before .before .before .before .before .lent-place in
+    let place = c .before .before .before .before .before .before .turned-place in
     let group : Group = record { tracks = received .result .tracks; parity = received .result .parity } in
-    let fits = judgement-told b words maps g (place .result) (place .ensures) group (received .result .illegal) (received .ensures .0) (received .ensures .1) in
+    let fits = judgement-told b words maps g (place .result) (place .ensures .0) group (received .result .illegal) (received .ensures .0) (received .ensures .1) in
     let judged = c .before .before .judge in
     (sym (ap toldJudged (c .enum-told .given .1)) ∙ judged .ensures .0 ∙ fits, λ q. absurd (false≢true q))
 
@@ -133,9 +133,9 @@ returns-3 c =
     let b = start .args .backward in
     let g = start .args .g in
     let received = c .before .before .before .before .before .receive in
-    let place = c .before .before .before .before .before .before .lent-place in
+    let place = c .before .before .before .before .before .before .turned-place in
     let group : Group = record { tracks = received .result .tracks; parity = received .result .parity } in
-    let fits = judgement-told b words maps g (place .result) (place .ensures) group (received .result .illegal) (received .ensures .0) (received .ensures .1) in
+    let fits = judgement-told b words maps g (place .result) (place .ensures .0) group (received .result .illegal) (received .ensures .0) (received .ensures .1) in
     let judged = c .before .before .judge in
     (sym (ap toldJudged (c .enum-told2 .given .1)) ∙ judged .ensures .0 ∙ fits, λ q. absurd (false≢true q))
 
@@ -143,7 +143,7 @@ pub judge-group-spec : {M : Type 1} → statement M
 judge-group-spec =
     tie.close
     (tie.spec
-    lent-place-requires
+    turned-place-requires
     mul-receive
     receive-requires
     mul-judge

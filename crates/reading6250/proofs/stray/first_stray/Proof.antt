@@ -38,15 +38,15 @@ returns c =
 loop-holds : tie.Need-loop-holds Inv-loop μ-loop
 loop-holds c = (search needs, λ j h. absurd (not-suc-le-zero h))
 
-lent-place-requires : tie.Need-lent-place-requires Inv-loop μ-loop
-lent-place-requires c κs = search needs
+turned-place-requires : tie.Need-turned-place-requires Inv-loop μ-loop
+turned-place-requires c κs = search needs
 
 mul-is-stray : tie.Need-mul-is-stray Inv-loop μ-loop
 mul-is-stray c =
     let at-place = c in
     let start = c .before .before .before .before .before .before .before in
-    let within : at-place .lent-place .result < length (now (start .args .maps)) =
-    rw (at-place .lent-place .ensures)
+    let within : at-place .turned-place .result < length (now (start .args .maps)) =
+    rw (at-place .turned-place .ensures .0)
     (place-lt (start .args .backward) (now (start .args .words)) (now (start .args .maps)) (start .pre) (c .before .before .loop .g) (c .before .loop-test .taken)) in
     omega arith
 
@@ -54,8 +54,8 @@ mul-is-stray-2 : tie.Need-mul-is-stray-2 Inv-loop μ-loop
 mul-is-stray-2 c =
     let at-place = c in
     let start = c .before .before .before .before .before .before .before in
-    let within : at-place .lent-place .result < length (now (start .args .maps)) =
-    rw (at-place .lent-place .ensures)
+    let within : at-place .turned-place .result < length (now (start .args .maps)) =
+    rw (at-place .turned-place .ensures .0)
     (place-lt (start .args .backward) (now (start .args .words)) (now (start .args .maps)) (start .pre) (c .before .before .loop .g) (c .before .loop-test .taken)) in
     omega arith
 
@@ -63,8 +63,8 @@ shared-slice-read-is-stray : tie.Need-shared-slice-read-is-stray Inv-loop μ-loo
 shared-slice-read-is-stray c =
     let at-place = c .before in
     let start = c .before .before .before .before .before .before .before .before in
-    let within : at-place .lent-place .result < length (now (start .args .maps)) =
-    rw (at-place .lent-place .ensures)
+    let within : at-place .turned-place .result < length (now (start .args .maps)) =
+    rw (at-place .turned-place .ensures .0)
     (place-lt (start .args .backward) (now (start .args .words)) (now (start .args .maps)) (start .pre) (c .before .before .before .loop .g) (c .before .before .loop-test .taken)) in
     within
 
@@ -72,8 +72,8 @@ is-stray-requires : tie.Need-is-stray-requires Inv-loop μ-loop
 is-stray-requires c κs =
     let at-place = c .before in
     let start = c .before .before .before .before .before .before .before .before in
-    let within : at-place .lent-place .result < length (now (start .args .maps)) =
-    rw (at-place .lent-place .ensures)
+    let within : at-place .turned-place .result < length (now (start .args .maps)) =
+    rw (at-place .turned-place .ensures .0)
     (place-lt (start .args .backward) (now (start .args .words)) (now (start .args .maps)) (start .pre) (c .before .before .before .loop .g) (c .before .before .loop-test .taken)) in
     omega (arith, start .pre)
 
@@ -83,8 +83,8 @@ returns-2 c =
     let args = c .before .before .before .before .before .before .before .before .before .before .args in
     let at = c .before .before .before .before .before .loop in
     sym (first-below-at (length (now (args .maps))) _ (at .g) (c .before .before .before .before .loop-test .taken) (at .inv .1)
-    (stray-told (args .backward) (now (args .words)) (now (args .maps)) (at .g) (c .before .before .before .lent-place .result)
-    (c .before .is-stray .result) (c .before .before .before .lent-place .ensures) (c .before .is-stray .ensures)
+    (stray-told (args .backward) (now (args .words)) (now (args .maps)) (at .g) (c .before .before .before .turned-place .result)
+    (c .before .is-stray .result) (c .before .before .before .turned-place .ensures .0) (c .before .is-stray .ensures)
     ∙ c .if3 .taken))
 
 add-g : tie.Need-add-g Inv-loop μ-loop
@@ -101,8 +101,8 @@ loop-again c =
       one-more-below (at .g)
           (λ g. stray (readGroup (args .backward) (now (args .words)) (now (args .maps)) g) (readMap (args .backward) (now (args .words)) (now (args .maps)) g) ≡ false)
           (at .inv .1)
-          (stray-told (args .backward) (now (args .words)) (now (args .maps)) (at .g) (c .before .before .before .lent-place .result)
-          (c .before .is-stray .result) (c .before .before .before .lent-place .ensures) (c .before .is-stray .ensures)
+          (stray-told (args .backward) (now (args .words)) (now (args .maps)) (at .g) (c .before .before .before .turned-place .result)
+          (c .before .is-stray .result) (c .before .before .before .turned-place .ensures .0) (c .before .is-stray .ensures)
           ∙ c .if3 .left),
     )
 
@@ -124,7 +124,7 @@ first-stray-spec =
     union-requires-2
     returns
     loop-holds
-    lent-place-requires
+    turned-place-requires
     mul-is-stray
     mul-is-stray-2
     shared-slice-read-is-stray
