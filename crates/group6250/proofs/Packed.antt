@@ -18,7 +18,7 @@ use Rattle.register.specs.Xor.{_⊕_}
 use Rattle.register.proofs.Sum.{sum-ext, sum-last}
 use Rattle.register.proofs.Xor.{xor-assoc, xor-left-comm}
 use Rattle.rectangular.specs.Constants.{feedback}
-use Rattle.rectangular.specs.Correction.{paritySyndrome, checkSyndrome}
+use Rattle.rectangular.specs.Syndrome.{paritySyndrome, checkSyndrome}
 use Rattle.rectangular.specs.Group.{character, column, track, group}
 use Rattle.group6250.specs.Packed.{byteAt, bytesOf, valuesOf, parityByte, placedAt}
 use Rattle.group6250.specs.declared.group.Group.{Group}

@@ -18,13 +18,12 @@ use Rattle.indexed.proofs.Test.{equal, equal₂, equal₃}
 use Rattle.register.specs.Bit.{ofBits}
 use Rattle.register.specs.Xor.{_⊕_}
 use Rattle.register.proofs.Xor.{xor-cancel}
-use Rattle.rectangular.specs.Correction.{errorAt}
-use Rattle.judge6250.specs.Judged.{markAt}
-use Rattle.rectangular.specs.Correction.{changedMap}
+use Rattle.judge6250.specs.Told.{markAt}
+use Rattle.rectangular.specs.Correction.{errorAt, changedMap}
 use Rattle.group6250.specs.Packed.{byteAt, valuesOf, placedAt}
 use Rattle.group6250.specs.declared.group.Group.{Group}
 use Rattle.group6250.proofs.Packed.{value-low, value-parity}
-use Rattle.rectangular.proofs.Syndrome.{error-here, error-elsewhere, untouched}
+use Rattle.rectangular.proofs.Syndrome.{error-here, error-elsewhere, no-error, untouched}
 
 -- ---- where an error stands: tests of every track and error
 
@@ -109,14 +108,6 @@ differs v x y (inr z) =
 some-picked : (t : Bool) (e : ℕ) → some (cond t e 0) ≡ cond t (some e) 0
 some-picked true e = refl
 some-picked false e = refl
-
-nothing : (t : Bool) → _≡_ {A = ℕ} (cond t 0 0) 0
-nothing true = refl
-nothing false = refl
-
-pub no-error : (k j : ℕ) → errorAt k 0 j ≡ 0
-unfolding errorAt
-no-error k j = nothing (eqb j k)
 
 -- a map of two tracks: a test of every two
 marked : (x y : Bool) (i j : ℕ) → i < 9 → j < 9

@@ -1,4 +1,4 @@
--- The judgement as the code makes it: by syndromes in hand, by a track that was searched for, and by counts of the map's bits.
+-- The errors as the code finds them: by a track that was searched for, and by counts of the map's bits.
 -- Assumes nothing.
 use mathlib.Core.Path.{_≡_, refl, sym, ap, ap₂, _∙_}
 use mathlib.Core.Bool.{Bool, true, false, cond}
@@ -7,66 +7,40 @@ use Prim.Native.Nat.{ℕ, _-_, _<_, _≤_}
 use native.Mathlib.Nat.{suc-ne-zero, suc-inj}
 use native.Mathlib.Omega.{arith}
 use borrow.Author.Tests.{lt-ltb, le-ltb, eq-eqb, ne-eqb}
-use lib.Bits.{bitAnd, xor-zero-r}
+use lib.Bits.{bitAnd}
 use lib.Count.{ones, onesIn, trailingZeros}
 use lib.Dec.{eqb, ltb}
 use lib.ListN.{length, getD}
 use Rattle.indexed.specs.List.{tabulate, tabulateFrom, firstWhere, below, keep}
-use Rattle.indexed.proofs.Tabulate.{tabulate-same}
 use Rattle.indexed.proofs.Test.{equal}
 use Rattle.register.specs.Bit.{bit}
-use Rattle.register.specs.Xor.{_⊕_}
 use Rattle.rectangular.specs.Constants.{feedback, exponent}
-use Rattle.rectangular.specs.Correction.{Judgement, corrected, manyPointed, noGroup, pointedTracks, paritySyndrome, checkSyndrome, weighed, secondError, errorAt, oneTrack, twoTracks, judged}
-use Rattle.judge6250.proofs.Corrected.{no-error}
+use Rattle.rectangular.specs.Correction.{pointedTracks}
+use Rattle.rectangular.specs.Syndrome.{weighed, Errors, errorsIn, tooMany, unaccounted, firstAccounting, oneError, errorsOf}
 
--- the judgements of one track and of two, over the syndromes
-abbrev fitting : ℕ → ℕ → ℕ → Bool
-fitting s1 s2 k = eqb (weighed 8 feedback k s1) s2
-
-abbrev oneBy : (ℕ → ℕ) → List ℕ → ℕ → ℕ → Judgement
-oneBy v tracks s1 t = cond (ltb t (length tracks)) (corrected (tabulate 9 (λ j. v j ⊕ errorAt (getD tracks t 0) s1 j))) noGroup
-
-abbrev twoBy : (ℕ → ℕ) → ℕ → ℕ → ℕ → ℕ → Judgement
-twoBy v i j s1 other = corrected (tabulate 9 (λ k. v k ⊕ errorAt i (s1 ⊕ other) k ⊕ errorAt j other k))
+-- ---- one error, by the index at which it was searched for
 
 -- the search through one track, by what its test gave
-pub first-of-one : (s1 s2 k : ℕ) (b : Bool) → fitting s1 s2 k ≡ b → firstWhere (fitting s1 s2) (k ∷ []) ≡ cond b 0 1
-unfolding firstWhere
+pub first-of-one : (s1 s2 k : ℕ) (b : Bool) → eqb (weighed 8 feedback k s1) s2 ≡ b → firstAccounting 8 feedback s1 s2 (k ∷ []) ≡ cond b 0 1
+unfolding firstAccounting firstWhere
 first-of-one s1 s2 k b e = ap (λ (b : Bool). cond b 0 1) e
 
-module _ (v : ℕ → ℕ) (s1 s2 : ℕ) (is1 : s1 ≡ paritySyndrome 8 v) (is2 : s2 ≡ checkSyndrome 8 feedback v) where
-  module _ (tracks : List ℕ) (t : ℕ) (found : firstWhere (fitting s1 s2) tracks ≡ t) where
-    one-by : oneTrack 8 feedback v tracks ≡ oneBy v tracks s1 t
-    unfolding oneTrack
-    one-by =
-        sym (ap₂ (λ (a b : ℕ). oneBy v tracks a (firstWhere (fitting a b) tracks)) is1 is2)
-        ∙ ap (oneBy v tracks s1) found
+module _ (s1 s2 : ℕ) (tracks : List ℕ) (t : ℕ) (found : firstAccounting 8 feedback s1 s2 tracks ≡ t) where
+  abbrev by-index : ℕ → Errors
+  by-index i = cond (ltb i (length tracks)) (errorsIn (getD tracks i 0) s1 8 0) unaccounted
 
-    -- the track was found, and no other error is taken off
-    pub one-corrected : t < length tracks → (k : ℕ) → getD tracks t 0 ≡ k
-        → (l : List ℕ) → l ≡ tabulate 9 (λ j. v j ⊕ errorAt k s1 j ⊕ errorAt 8 0 j) → corrected l ≡ oneTrack 8 feedback v tracks
-    one-corrected h k at l e =
-        ap corrected
-        (e
-        ∙ tabulate-same 9 _ _
-        (λ j _. ap (λ (x : ℕ). v j ⊕ errorAt k s1 j ⊕ x) (no-error 8 j) ∙ xor-zero-r (v j ⊕ errorAt k s1 j)))
-        ∙ sym (one-by
-        ∙ ap (λ (b : Bool). cond b (corrected (tabulate 9 (λ j. v j ⊕ errorAt (getD tracks t 0) s1 j))) noGroup) (lt-ltb t (length tracks) h)
-        ∙ ap (λ (i : ℕ). corrected (tabulate 9 (λ j. v j ⊕ errorAt i s1 j))) at)
+  pub one-is : t < length tracks → (k : ℕ) → getD tracks t 0 ≡ k → (e : Errors) → e ≡ errorsIn k s1 8 0 → e ≡ oneError 8 feedback s1 s2 tracks
+  unfolding oneError
+  one-is h k at e is =
+      is
+      ∙ sym (ap by-index found
+      ∙ ap (λ (b : Bool). cond b (errorsIn (getD tracks t 0) s1 8 0) unaccounted) (lt-ltb t (length tracks) h)
+      ∙ ap (λ (i : ℕ). errorsIn i s1 8 0) at)
 
-    pub one-no-group : length tracks ≤ t → noGroup ≡ oneTrack 8 feedback v tracks
-    one-no-group h =
-        sym (one-by
-        ∙ ap (λ (b : Bool). cond b (corrected (tabulate 9 (λ j. v j ⊕ errorAt (getD tracks t 0) s1 j))) noGroup) (le-ltb t (length tracks) h))
-
-  pub two-corrected : (i j other : ℕ) → other ≡ secondError 8 feedback exponent i j s1 s2
-      → (l : List ℕ) → l ≡ tabulate 9 (λ k. v k ⊕ errorAt i (s1 ⊕ other) k ⊕ errorAt j other k) → corrected l ≡ twoTracks 8 feedback exponent v i j
-  unfolding twoTracks
-  two-corrected i j other is l e =
-      ap corrected e
-      ∙ ap (twoBy v i j s1) is
-      ∙ ap₂ (λ (a b : ℕ). twoBy v i j a (secondError 8 feedback exponent i j a b)) is1 is2
+  pub one-none : length tracks ≤ t → unaccounted ≡ oneError 8 feedback s1 s2 tracks
+  unfolding oneError
+  one-none h =
+      sym (ap by-index found ∙ ap (λ (b : Bool). cond b (errorsIn (getD tracks t 0) s1 8 0) unaccounted) (le-ltb t (length tracks) h))
 
 -- ---- the map of pointed tracks: tests of every map
 
@@ -141,22 +115,21 @@ module _ (m : ℕ) (h : m < 512) where
   two-pointed e =
       list-of-two (pointedTracks 9 m) (pointed-count m h ∙ e) ∙ ap₂ (λ (i j : ℕ). i ∷ j ∷ []) (pointed-first m h) (pointed-second m h)
 
-judged-many : (v : ℕ → ℕ) (l : List ℕ) → (length l ≡ 0 → ⊥) → (length l ≡ 1 → ⊥) → (length l ≡ 2 → ⊥)
-    → manyPointed ≡ judged 8 feedback exponent v l
-unfolding judged
-judged-many v [] a b d = absurd (a refl)
-judged-many v (i ∷ []) a b d = absurd (b refl)
-judged-many v (i ∷ j ∷ []) a b d = absurd (d refl)
-judged-many v (i ∷ j ∷ k ∷ l) a b d = refl
+is-many : (s1 s2 : ℕ) (l : List ℕ) → (length l ≡ 0 → ⊥) → (length l ≡ 1 → ⊥) → (length l ≡ 2 → ⊥) → tooMany ≡ errorsOf 8 feedback exponent s1 s2 l
+unfolding errorsOf
+is-many s1 s2 [] a b d = absurd (a refl)
+is-many s1 s2 (i ∷ []) a b d = absurd (b refl)
+is-many s1 s2 (i ∷ j ∷ []) a b d = absurd (d refl)
+is-many s1 s2 (i ∷ j ∷ k ∷ l) a b d = refl
 
 -- a map of no ones is 0
 none-counted : (m : ℕ) → m < 512 → cond (eqb (ones m) 0) m 0 ≡ 0
 unfolding ones onesIn
 none-counted = equal 512 (λ m. cond (eqb (ones m) 0) m 0) (λ m. 0) tt
 
-pub many-pointed : (v : ℕ → ℕ) (m : ℕ) → m < 512 → (m ≡ 0 → ⊥) → (ones m ≡ 1 → ⊥) → (ones m ≡ 2 → ⊥)
-    → manyPointed ≡ judged 8 feedback exponent v (pointedTracks 9 m)
-many-pointed v m h some b d =
-    judged-many v (pointedTracks 9 m)
+pub many-pointed : (s1 s2 m : ℕ) → m < 512 → (m ≡ 0 → ⊥) → (ones m ≡ 1 → ⊥) → (ones m ≡ 2 → ⊥)
+    → tooMany ≡ errorsOf 8 feedback exponent s1 s2 (pointedTracks 9 m)
+many-pointed s1 s2 m h some b d =
+    is-many s1 s2 (pointedTracks 9 m)
     (λ e. some (sym (ap (λ (t : Bool). cond t m 0) (eq-eqb (ones m) 0 (sym (pointed-count m h) ∙ e))) ∙ none-counted m h))
     (λ e. b (sym (pointed-count m h) ∙ e)) (λ e. d (sym (pointed-count m h) ∙ e))

@@ -17,7 +17,7 @@ use Rattle.register.proofs.Sum.{sum-ext, sum-xor, sum-mod, sum-shr, shifts-sum}
 use Rattle.register.proofs.Xor.{xor-swap}
 use Rattle.remainder.specs.Power.{eighthPower}
 use Rattle.rectangular.specs.Constants.{feedback}
-use Rattle.rectangular.specs.Correction.{checkSyndrome}
+use Rattle.rectangular.specs.Syndrome.{checkSyndrome}
 use Rattle.group6250.specs.Packed.{byteAt}
 use Rattle.group6250.proofs.Bytes.{byte-lt}
 

@@ -15,7 +15,7 @@ use Rattle.register.proofs.Linear.{Linear, linear-expanded}
 use Rattle.register.proofs.Shift.{shifts-xor}
 use Rattle.register.proofs.Sum.{sum-ext, sum-xor}
 use Rattle.register.proofs.Xor.{digit-ind}
-use Rattle.rectangular.specs.Correction.{erasure}
+use Rattle.rectangular.specs.Syndrome.{erasure}
 use Rattle.group6250.specs.Packed.{byteAt, bytesOf, parityByte}
 use Rattle.products.specs.Product.{productOf}
 use Rattle.group6250.proofs.Bytes.{byte-lt, byte-of}

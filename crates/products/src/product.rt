@@ -8,7 +8,7 @@ ghost use Prim.Native.Nat.{_-_, _^_, _<_, _≤_};
 ghost use Rattle.indexed.specs.List.{tabulate};
 ghost use Rattle.register.specs.Shift.{shifts};
 ghost use Rattle.rectangular.specs.Constants.{feedback, exponent};
-ghost use Rattle.rectangular.specs.Correction.{erasure};
+ghost use Rattle.rectangular.specs.Syndrome.{erasure};
 ghost use Rattle.group6250.specs.Packed.{bytesOf};
 ghost use Rattle.products.specs.Product.{productOf};
 

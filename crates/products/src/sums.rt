@@ -7,7 +7,7 @@ ghost use Rattle.register.specs.Shift.{shifts};
 ghost use Rattle.register.specs.Sum.{xorSum};
 ghost use Rattle.register.specs.Xor.{_⊕_};
 ghost use Rattle.rectangular.specs.Constants.{feedback};
-ghost use Rattle.rectangular.specs.Correction.{checkSyndrome};
+ghost use Rattle.rectangular.specs.Syndrome.{checkSyndrome};
 ghost use Rattle.group6250.specs.Packed.{byteAt};
 
 // The sum of X^j Z_j, unreduced, which has 15 bits: tracks are added two by two, then the sums of two, then

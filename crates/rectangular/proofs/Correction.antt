@@ -2,33 +2,30 @@
 -- group at most, and where there is one it is found (document 000, theorems 1 and 2; the notice, third term). At nine tracks.
 -- Assumes nothing.
 use mathlib.Core.Path.{_≡_, refl, sym, ap, subst, _∙_}
-use mathlib.Core.Logic.{inl, inr}
-use mathlib.Core.Bool.{Bool, true, false, cond}
+use mathlib.Core.Logic.{_⊎_, inl, inr}
 use mathlib.Core.List.{List, [], _∷_}
 use Prim.Native.Nat.{ℕ, zero, suc, _+_, _*_, _/_, _^_, _<_, _≤_}
 use native.Mathlib.Omega.{arith}
-use borrow.Author.Tests.{lt-ltb, ltb-true, eqb-true, eq-eqb}
-use lib.Bits.{xor-lt, xor-self, xor-zero-r}
-use lib.Dec.{ltb, eqb}
+use lib.Bits.{xor-zero-r}
 use lib.ListN.{length, getD}
 use lib.Seq.{ext-getD}
-use Rattle.indexed.specs.List.{tabulate, firstWhere, below}
+use Rattle.indexed.specs.List.{tabulate, below}
 use Rattle.indexed.proofs.Differ.{AgreeBut, one, differences-one, differences-both}
-use Rattle.indexed.proofs.First.{first-passes, first-found}
 use Rattle.indexed.proofs.Tabulate.{length-tabulate, getD-tabulate}
 use Rattle.register.specs.Bit.{bit}
 use Rattle.register.specs.Exponent.{Exponent}
 use Rattle.register.specs.Xor.{_⊕_}
-use Rattle.register.proofs.Xor.{xor-assoc}
 use Rattle.rectangular.specs.Constants.{feedback, exponent}
-use Rattle.rectangular.specs.Correction.{pointedTracks, Allowed, paritySyndrome, checkSyndrome, weighed, secondError, errorAt, corrected, manyPointed, noGroup, oneTrack, twoTracks, judged}
+use Rattle.rectangular.specs.Correction.{pointedTracks, Allowed, errorAt, corrected, manyPointed, noGroup, without, judged}
 use Rattle.rectangular.specs.Group.{IsGroup, Suits}
+use Rattle.rectangular.specs.Syndrome.{paritySyndrome, checkSyndrome, Errors, errorsIn, tooMany, unaccounted, oneError, twoErrors, errorsOf}
 use Rattle.rectangular.proofs.Constants.{exponent-of-T}
 use Rattle.rectangular.proofs.Distance.{two-tracks, three-tracks}
 use Rattle.rectangular.proofs.Equations.{group-ext}
+use Rattle.rectangular.proofs.Errors.{below-within, Accounts, OneFound, one-error, one-found, two-errors, errors-many, errors-none}
 use Rattle.rectangular.proofs.Pointed.{pointed-lt, pointed-ascends, pointed-bit, outside}
 use Rattle.rectangular.proofs.Suits.{nine-tracks}
-use Rattle.rectangular.proofs.Syndrome.{untouched, parity-lt, check-lt, corrects-one, corrects-two, second-lt, second-accounts, accounts}
+use Rattle.rectangular.proofs.Syndrome.{no-error, untouched, parity-lt, check-lt, corrects-two, accounts}
 
 -- a track that is neither of two is none of their list by index, and so with one
 neither : (i j k : ℕ) → (k ≡ i → ⊥) → (k ≡ j → ⊥) → (t : ℕ) → t < 2 → k ≡ getD (i ∷ j ∷ []) t 0 → ⊥
@@ -42,130 +39,92 @@ not-it i k ni (suc t) h = λ e. omega arith
 
 -- ---- what is corrected
 
-module _ (w f : ℕ) (v : ℕ → ℕ) where
-  -- the test by which a track is found, the track, and what is made of it
-  abbrev fitting : ℕ → Bool
-  fitting k = eqb (weighed w f k (paritySyndrome w v)) (checkSyndrome w f v)
+module _ (w f : ℕ) (s : Suits w f) (v : ℕ → ℕ) (bounds : (k : ℕ) → k ≤ w → v k < 2 ^ w) where
+  abbrev right : ℕ → ℕ → ℕ → ℕ → ℕ → ℕ
+  right i a j b k = v k ⊕ errorAt i a k ⊕ errorAt j b k
 
-  abbrev found : List ℕ → ℕ
-  found tracks = getD tracks (firstWhere fitting tracks) 0
+  -- u is a group that differs from what was read in tracks i and j at most
+  abbrev Corrects : ℕ → ℕ → List ℕ → Type 0
+  Corrects i j u = (length u ≡ suc w) × IsGroup w f (λ k. getD u k 0) × AgreeBut (suc w) v (λ k. getD u k 0) i j
 
-  abbrev right : List ℕ → ℕ → ℕ
-  right tracks j = v j ⊕ errorAt (found tracks) (paritySyndrome w v) j
+  -- errors that account for the syndromes of the values, taken off
+  taken-off : (i a j b : ℕ) → Accounts w f (paritySyndrome w v) (checkSyndrome w f v) i a j b → (t : ℕ) → (k : ℕ) → AgreeBut (suc w) v (right i a j b) t k
+      → (u : List ℕ) → tabulate (suc w) (right i a j b) ≡ u → Corrects t k u
+  taken-off i a j b x t k agree u same =
+      subst (Corrects t k) same (
+        length-tabulate (suc w) (right i a j b),
+        group-ext w f (right i a j b) _ (λ m h. sym (getD-tabulate (suc w) (right i a j b) m 0 (omega arith)))
+            (corrects-two w f (s .fits) v bounds i j a b (x .first) (x .second) (x .small) (x .other-small) (x .parity) (x .check)),
+        λ m h ni nj. agree m h ni nj ∙ sym (getD-tabulate (suc w) (right i a j b) m 0 h),
+      )
 
-  one-not-many : (tracks : List ℕ) → oneTrack w f v tracks ≡ manyPointed → ⊥
-  unfolding oneTrack
-  one-not-many tracks = by (ltb (firstWhere fitting tracks) (length tracks))
-    where
-      by : (b : Bool) → cond b (corrected (tabulate (suc w) (right tracks))) noGroup ≡ manyPointed → ⊥
-      by true e = let z : _≡_ {A = ℕ} 0 1 = cc in omega arith
-      by false e = let z : _≡_ {A = ℕ} 0 1 = cc in omega arith
+  one-agrees : (i a : ℕ) → AgreeBut (suc w) v (right i a w 0) i i
+  one-agrees i a k h ni nj =
+      sym (ap (λ (x : ℕ). v k ⊕ errorAt i a k ⊕ x) (no-error w k) ∙ xor-zero-r (v k ⊕ errorAt i a k) ∙ untouched (v k) i a k ni)
 
-  module _ (s : Suits w f) (bounds : (k : ℕ) → k ≤ w → v k < 2 ^ w) where
-    -- u is a group that differs from what was read in tracks i and j at most
-    abbrev Corrects : ℕ → ℕ → List ℕ → Type 0
-    Corrects i j u = (length u ≡ suc w) × IsGroup w f (λ k. getD u k 0) × AgreeBut (suc w) v (λ k. getD u k 0) i j
+  two-agree : (i a j b : ℕ) → AgreeBut (suc w) v (right i a j b) i j
+  two-agree i a j b k h ni nj = sym (untouched _ j b k nj ∙ untouched (v k) i a k ni)
 
-    tabulated : (i j : ℕ) (h : ℕ → ℕ) → IsGroup w f h → AgreeBut (suc w) v h i j → Corrects i j (tabulate (suc w) h)
-    tabulated i j h g a = (
-      length-tabulate (suc w) h,
-      group-ext w f h _ (λ k b. sym (getD-tabulate (suc w) h k 0 (omega arith))) g,
-      λ k b ni nj. a k b ni nj ∙ sym (getD-tabulate (suc w) h k 0 b),
-    )
+  abbrev told : List ℕ → Errors
+  told tracks = oneError w f (paritySyndrome w v) (checkSyndrome w f v) tracks
 
-    one-sound : (tracks : List ℕ) → ((t : ℕ) → t < length tracks → getD tracks t 0 ≤ w) → (u : List ℕ) → oneTrack w f v tracks ≡ corrected u
+  module _ (tracks : List ℕ) (within : (t : ℕ) → t < length tracks → getD tracks t 0 ≤ w) where
+    abbrev cases : ((t : ℕ) × OneFound w f (paritySyndrome w v) (checkSyndrome w f v) tracks t) ⊎ (told tracks ≡ unaccounted)
+    cases = one-error w f (paritySyndrome w v) (checkSyndrome w f v) (parity-lt w f (s .fits) v bounds) tracks within
+
+    one-sound : (u : List ℕ) → without w v (told tracks) ≡ corrected u
         → (t : ℕ) × (t < length tracks) × Corrects (getD tracks t 0) (getD tracks t 0) u
-    unfolding oneTrack
-    one-sound tracks within u = by (ltb (firstWhere fitting tracks) (length tracks)) refl
+    unfolding without
+    one-sound u e = by cases
       where
-        by : (b : Bool) → ltb (firstWhere fitting tracks) (length tracks) ≡ b
-            → cond b (corrected (tabulate (suc w) (right tracks))) noGroup ≡ corrected u
+        by : ((t : ℕ) × OneFound w f (paritySyndrome w v) (checkSyndrome w f v) tracks t) ⊎ (told tracks ≡ unaccounted)
             → (t : ℕ) × (t < length tracks) × Corrects (getD tracks t 0) (getD tracks t 0) u
-        by true q e =
-            let h : firstWhere fitting tracks < length tracks = ltb-true _ _ q in
-            let same : tabulate (suc w) (right tracks) ≡ u = cc in (
-              firstWhere fitting tracks,
-              h,
-              subst (Corrects (found tracks) (found tracks)) same
-                  (tabulated (found tracks) (found tracks) (right tracks)
-                  (corrects-one w f (s .fits) v bounds (found tracks) (within (firstWhere fitting tracks) h)
-                  (eqb-true _ _ (first-passes fitting tracks h)))
-                  (λ k b ni nj. sym (untouched (v k) (found tracks) (paritySyndrome w v) k ni))),
+        by (inl x) =
+            let made = ap (without w v) (x .1 .is-told) in
+            let same : tabulate (suc w) (right (getD tracks (x .0) 0) (paritySyndrome w v) w 0) ≡ u = cc in (
+              x .0,
+              x .1 .within,
+              taken-off _ _ w 0 (x .1 .accounts) _ _ (one-agrees (getD tracks (x .0) 0) (paritySyndrome w v)) u same,
             )
-        by false q e = let z : _≡_ {A = ℕ} 0 1 = cc in absurd (omega arith)
+        by (inr q) = let made = ap (without w v) q in let z : _≡_ {A = ℕ} 0 1 = cc in absurd (omega arith)
 
     -- a group that differs in one of the tracks is found
-    one-found : (tracks : List ℕ) (g : ℕ → ℕ) → IsGroup w f g → (t : ℕ) → t < length tracks → (k : ℕ) → getD tracks t 0 ≡ k → k ≤ w
-        → AgreeBut (suc w) v g k k → (u : List ℕ) × (oneTrack w f v tracks ≡ corrected u)
-    unfolding oneTrack
-    one-found tracks g group t h k e within agree = (
-      tabulate (suc w) (right tracks),
-      ap (λ (b : Bool). cond b (corrected (tabulate (suc w) (right tracks))) noGroup)
-          (lt-ltb _ _
-          (first-found fitting tracks t h
-          (ap fitting e ∙ eq-eqb _ _ (accounts w f (s .fits) v bounds g group k within agree)))),
-    )
-
-    two-sound : (n : ℕ) → Exponent w f n → n ≡ 2 * (n / 2) + 1 → w ≤ n → (i j : ℕ) → i < j → j ≤ w → (u : List ℕ)
-        → twoTracks w f n v i j ≡ corrected u → Corrects i j u
-    unfolding twoTracks
-    two-sound n x odd wide i j before within u e =
-        subst (Corrects i j) same
-        (tabulated i j _
-        (corrects-two w f (s .fits) v bounds i j (s1 ⊕ second) second (omega arith) within (xor-lt w s1 second s1-lt small) small
-        (xor-assoc s1 second second ∙ ap (λ (y : ℕ). s1 ⊕ y) (xor-self second) ∙ xor-zero-r s1)
-        (second-accounts w f n s x odd wide i j before within s1 s2 s1-lt s2-lt))
-        (λ k b ni nj. sym (untouched _ j second k nj ∙ untouched (v k) i (s1 ⊕ second) k ni)))
+    one-complete : (g : ℕ → ℕ) → IsGroup w f g → (t : ℕ) → t < length tracks → AgreeBut (suc w) v g (getD tracks t 0) (getD tracks t 0)
+        → (u : List ℕ) × (without w v (told tracks) ≡ corrected u)
+    unfolding without
+    one-complete g group t h agree = by cases
       where
-        s1 : ℕ
-        s1 = paritySyndrome w v
-
-        s2 : ℕ
-        s2 = checkSyndrome w f v
-
-        s1-lt : s1 < 2 ^ w
-        s1-lt = parity-lt w f (s .fits) v bounds
-
-        s2-lt : s2 < 2 ^ w
-        s2-lt = check-lt w f (s .fits) v bounds
-
-        second : ℕ
-        second = secondError w f n i j s1 s2
-
-        small : second < 2 ^ w
-        small = second-lt w f n s x odd wide i j before within s1 s2 s1-lt s2-lt
-
-        same : tabulate (suc w) (λ k. v k ⊕ errorAt i (s1 ⊕ second) k ⊕ errorAt j second k) ≡ u
-        same = cc
+        by : ((t : ℕ) × OneFound w f (paritySyndrome w v) (checkSyndrome w f v) tracks t) ⊎ (told tracks ≡ unaccounted)
+            → (u : List ℕ) × (without w v (told tracks) ≡ corrected u)
+        by (inl x) = (_, ap (without w v) (x .1 .is-told))
+        by (inr q) =
+            absurd (one-found w f (paritySyndrome w v) (checkSyndrome w f v) (parity-lt w f (s .fits) v bounds) tracks within t h
+            (accounts w f (s .fits) v bounds g group (getD tracks t 0) (within t h) agree) q)
 
 -- ---- the theorems, over the width
 
 module _ (w f n : ℕ) (s : Suits w f) (x : Exponent w f n) (odd : n ≡ 2 * (n / 2) + 1) (wide : w ≤ n) (v : ℕ → ℕ)
     (bounds : (k : ℕ) → k ≤ w → v k < 2 ^ w) (pointers : ℕ) where
-  below-within : (t : ℕ) → t < length (below (suc w)) → getD (below (suc w)) t 0 ≤ w
-  unfolding below
-  below-within t h =
-      let b : t < suc w = omega (arith, length-tabulate (suc w) (λ k. k)) in
-      omega (arith, getD-tabulate (suc w) (λ k. k) t 0 b)
-
   pub sound : (u : List ℕ) → judged w f n v (pointedTracks (suc w) pointers) ≡ corrected u
       → (length u ≡ suc w) × IsGroup w f (λ k. getD u k 0) × Allowed (suc w) pointers v (λ k. getD u k 0)
-  unfolding judged Allowed
+  unfolding judged without errorsOf twoErrors Allowed
   sound u = by (pointedTracks (suc w) pointers) refl
     where
       by : (l : List ℕ) → pointedTracks (suc w) pointers ≡ l → judged w f n v l ≡ corrected u
           → (length u ≡ suc w) × IsGroup w f (λ k. getD u k 0) × Allowed (suc w) pointers v (λ k. getD u k 0)
       by [] q e =
-          let c = one-sound w f v s bounds (below (suc w)) below-within u e in
+          let c = one-sound w f s v bounds (below (suc w)) (below-within w) u e in
           (c .2 .0, c .2 .1, inl (omega (arith, ap length q), omega (arith, differences-one v _ _ (suc w) (c .2 .2))))
       by (i ∷ []) q e =
-          let c = one-sound w f v s bounds (i ∷ []) (λ t h. omega (arith, pointed-lt (suc w) pointers (i ∷ []) q t h)) u e in
+          let c = one-sound w f s v bounds (i ∷ []) (λ t h. omega (arith, pointed-lt (suc w) pointers (i ∷ []) q t h)) u e in
           let no : (k : ℕ) → bit k pointers ≡ 0 → k ≡ getD (i ∷ []) (c .0) 0 → ⊥ = pointed-bit (suc w) pointers (i ∷ []) q (c .0) (c .1) in
           (c .2 .0, c .2 .1, inr (omega (arith, ap length q), omega (arith, ap length q), λ k h z. c .2 .2 k (omega arith) (no k z) (no k z)))
       by (i ∷ j ∷ []) q e =
-          let c =
-          two-sound w f v s bounds n x odd wide i j (pointed-ascends (suc w) pointers (i ∷ j ∷ []) q 0 1 (omega arith) (omega arith))
-          (omega (arith, pointed-lt (suc w) pointers (i ∷ j ∷ []) q 1 (omega arith))) u e in (
+          let accounted =
+          two-errors w f (paritySyndrome w v) (checkSyndrome w f v) n s x odd wide i j
+          (pointed-ascends (suc w) pointers (i ∷ j ∷ []) q 0 1 (omega arith) (omega arith))
+          (omega (arith, pointed-lt (suc w) pointers (i ∷ j ∷ []) q 1 (omega arith))) (parity-lt w f (s .fits) v bounds) (check-lt w f (s .fits) v bounds) in
+          let c = taken-off w f s v bounds i _ j _ accounted i j (two-agree w f s v bounds i _ j _) u cc in (
             c .0,
             c .1,
             inr (
@@ -210,20 +169,19 @@ module _ (w f n : ℕ) (s : Suits w f) (x : Exponent w f n) (odd : n ≡ 2 * (n 
     (allowed : Allowed (suc w) pointers v g) where
   -- some group is found
   some-group : (u : List ℕ) × (judged w f n v (pointedTracks (suc w) pointers) ≡ corrected u)
-  unfolding judged twoTracks Allowed below
+  unfolding judged without errorsOf twoErrors Allowed below
   some-group = by (pointedTracks (suc w) pointers) refl allowed
     where
       by : (l : List ℕ) → pointedTracks (suc w) pointers ≡ l → Allowed (suc w) pointers v g
           → (u : List ℕ) × (judged w f n v l ≡ corrected u)
       by [] q (inl a) =
           let c = one v g w (a .1) in
-          one-found w f v s bounds (below (suc w)) g group (c .0) (omega (arith, length-tabulate (suc w) (λ k. k))) (c .0)
-          (getD-tabulate (suc w) (λ k. k) (c .0) 0 (c .1)) (omega arith) (λ k h ni nj. c .2 k h ni)
+          one-complete w f s v bounds (below (suc w)) (below-within w) g group (c .0) (omega (arith, length-tabulate (suc w) (λ k. k)))
+          (λ k h ni nj. c .2 k h (λ e. ni (e ∙ sym (getD-tabulate (suc w) (λ k. k) (c .0) 0 (c .1)))))
       by [] q (inr a) = absurd (omega (arith, ap length q))
       by (i ∷ []) q (inl a) = absurd (omega (arith, ap length q))
       by (i ∷ []) q (inr a) =
-          one-found w f v s bounds (i ∷ []) g group 0 (omega arith) i refl
-          (omega (arith, pointed-lt (suc w) pointers (i ∷ []) q 0 (omega arith)))
+          one-complete w f s v bounds (i ∷ []) (λ t h. omega (arith, pointed-lt (suc w) pointers (i ∷ []) q t h)) g group 0 (omega arith)
           (λ k h ni nj. a .2 k h (outside (suc w) pointers (i ∷ []) q k h (not-it i k ni)))
       by (i ∷ j ∷ []) q a = (_, refl)
       by (i ∷ j ∷ k ∷ more) q (inl a) = absurd (omega (arith, ap length q))
@@ -241,38 +199,27 @@ module _ (w f n : ℕ) (s : Suits w f) (x : Exponent w f n) (odd : n ≡ 2 * (n 
       unique w f s v pointers (λ k. getD (c .0) k 0) g (r .1) group (r .2) allowed k (omega arith)
       ∙ sym (getD-tabulate (suc w) g k 0 b)))
 
--- what the judgement comes to, by how many tracks are pointed
-module _ (w f n : ℕ) (v : ℕ → ℕ) (pointers : ℕ) where
-  pub judged-many : judged w f n v (pointedTracks (suc w) pointers) ≡ manyPointed → 3 ≤ length (pointedTracks (suc w) pointers)
-  unfolding judged twoTracks
-  judged-many = by (pointedTracks (suc w) pointers)
-    where
-      by : (l : List ℕ) → judged w f n v l ≡ manyPointed → 3 ≤ length l
-      by [] e = absurd (one-not-many w f v (below (suc w)) e)
-      by (i ∷ []) e = absurd (one-not-many w f v (i ∷ []) e)
-      by (i ∷ j ∷ []) e = let z : _≡_ {A = ℕ} 0 1 = cc in absurd (omega arith)
-      by (i ∷ j ∷ k ∷ more) e = omega arith
+-- why no group fits, by how many tracks are pointed
+module _ (w f n : ℕ) (v : ℕ → ℕ) (l : List ℕ) where
+  many-told : (e : Errors) → without w v e ≡ manyPointed → e ≡ tooMany
+  unfolding without
+  many-told (errorsIn i a j b) e = let z : _≡_ {A = ℕ} 0 1 = cc in absurd (omega arith)
+  many-told tooMany e = refl
+  many-told unaccounted e = let z : _≡_ {A = ℕ} 0 1 = cc in absurd (omega arith)
 
-  pub judged-none : judged w f n v (pointedTracks (suc w) pointers) ≡ noGroup → length (pointedTracks (suc w) pointers) ≤ 1
-  unfolding judged twoTracks
-  judged-none = by (pointedTracks (suc w) pointers)
-    where
-      by : (l : List ℕ) → judged w f n v l ≡ noGroup → length l ≤ 1
-      by [] e = omega arith
-      by (i ∷ []) e = omega arith
-      by (i ∷ j ∷ []) e = let z : _≡_ {A = ℕ} 0 1 = cc in absurd (omega arith)
-      by (i ∷ j ∷ k ∷ more) e = let z : _≡_ {A = ℕ} 0 1 = cc in absurd (omega arith)
+  none-told : (e : Errors) → without w v e ≡ noGroup → e ≡ unaccounted
+  unfolding without
+  none-told (errorsIn i a j b) e = let z : _≡_ {A = ℕ} 0 1 = cc in absurd (omega arith)
+  none-told tooMany e = let z : _≡_ {A = ℕ} 0 1 = cc in absurd (omega arith)
+  none-told unaccounted e = refl
 
-  pub judged-two : length (pointedTracks (suc w) pointers) ≡ 2
-      → (u : List ℕ) × (judged w f n v (pointedTracks (suc w) pointers) ≡ corrected u)
-  unfolding judged twoTracks
-  judged-two = by (pointedTracks (suc w) pointers)
-    where
-      by : (l : List ℕ) → length l ≡ 2 → (u : List ℕ) × (judged w f n v l ≡ corrected u)
-      by [] e = absurd (omega arith)
-      by (i ∷ []) e = absurd (omega arith)
-      by (i ∷ j ∷ []) e = (_, refl)
-      by (i ∷ j ∷ k ∷ more) e = absurd (omega arith)
+  pub judged-many : judged w f n v l ≡ manyPointed → 3 ≤ length l
+  unfolding judged
+  judged-many e = errors-many w f n (paritySyndrome w v) (checkSyndrome w f v) l (many-told _ e)
+
+  pub judged-none : judged w f n v l ≡ noGroup → length l ≤ 1
+  unfolding judged
+  judged-none e = errors-none w f n (paritySyndrome w v) (checkSyndrome w f v) l (none-told _ e)
 
 -- ---- nine tracks
 
@@ -287,7 +234,7 @@ module _ (v : ℕ → ℕ) (bounds : (k : ℕ) → k ≤ 8 → v k < 2 ^ 8) (poi
 
 module _ (v : ℕ → ℕ) (pointers : ℕ) where
   pub nine-many : judged 8 feedback exponent v (pointedTracks 9 pointers) ≡ manyPointed → 3 ≤ length (pointedTracks 9 pointers)
-  nine-many = judged-many 8 feedback exponent v pointers
+  nine-many = judged-many 8 feedback exponent v (pointedTracks 9 pointers)
 
   pub nine-none : judged 8 feedback exponent v (pointedTracks 9 pointers) ≡ noGroup → length (pointedTracks 9 pointers) ≤ 1
-  nine-none = judged-none 8 feedback exponent v pointers
+  nine-none = judged-none 8 feedback exponent v (pointedTracks 9 pointers)

@@ -14,7 +14,7 @@ use Rattle.register.proofs.Exponent.{multiples}
 use Rattle.register.proofs.Shift.{shifts-lt, shifts-add}
 use Rattle.register.proofs.Sum.{sum-ext, sum-lt, sum-xor, shifts-sum, sum-first, sum-telescope, sum-pairs}
 use Rattle.register.proofs.Xor.{xor-zero→eq}
-use Rattle.rectangular.specs.Correction.{erasure}
+use Rattle.rectangular.specs.Syndrome.{erasure}
 use Rattle.rectangular.specs.Group.{Suits}
 
 module _ (w f n : ℕ) (s : Suits w f) (x : Exponent w f n) (odd : n ≡ 2 * (n / 2) + 1) (d : ℕ) (positive : 0 < d) (below : d < w)

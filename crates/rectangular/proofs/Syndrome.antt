@@ -19,7 +19,8 @@ use Rattle.register.proofs.Exponent.{shifts-back}
 use Rattle.register.proofs.Shift.{shifts-lt, shifts-xor, shifts-zero, shifts-add}
 use Rattle.register.proofs.Sum.{sum-ext, sum-lt, sum-zero, sum-xor, sum-one}
 use Rattle.register.proofs.Xor.{xor-assoc, xor-left-comm, xor-cancel}
-use Rattle.rectangular.specs.Correction.{paritySyndrome, checkSyndrome, weighed, erasure, secondError, errorAt}
+use Rattle.rectangular.specs.Syndrome.{paritySyndrome, checkSyndrome, weighed, erasure, secondError}
+use Rattle.rectangular.specs.Correction.{errorAt}
 use Rattle.rectangular.specs.Group.{IsGroup, Suits}
 use Rattle.rectangular.proofs.Erasure.{erasure-lt, erasure-inverts}
 
@@ -46,6 +47,14 @@ unfolding errorAt
 error-xor k a b j = by (eqb j k)
   where
     by : (c : Bool) → cond c (a ⊕ b) 0 ≡ cond c a 0 ⊕ cond c b 0
+    by true = refl
+    by false = refl
+
+pub no-error : (k j : ℕ) → errorAt k 0 j ≡ 0
+unfolding errorAt
+no-error k j = by (eqb j k)
+  where
+    by : (b : Bool) → _≡_ {A = ℕ} (cond b 0 0) 0
     by true = refl
     by false = refl
 
@@ -106,22 +115,9 @@ module _ (w f : ℕ) (fits : f < 2 ^ w) (v : ℕ → ℕ) (bounds : (k : ℕ) �
         ∙ sum-xor w (λ j. shifts w f j (v j)) (λ j. shifts w f j (errorAt k e j))
         ∙ ap (λ (y : ℕ). xorSum w (λ j. shifts w f j (v j)) ⊕ y) (weights w f k e)
 
-  -- ---- an error put back
+-- ---- errors put back
 
-  -- in one track: S1 is the error, and it accounts for S2
-  pub corrects-one : (k : ℕ) → k ≤ w → weighed w f k (paritySyndrome w v) ≡ checkSyndrome w f v
-      → IsGroup w f (λ j. v j ⊕ errorAt k (paritySyndrome w v) j)
-  unfolding paritySyndrome checkSyndrome
-  corrects-one k h e = record {
-    bounds = error-bounds k (paritySyndrome w v) h parity-lt;
-    parity = parity-error k (paritySyndrome w v) h parity-lt ∙ xor-self (paritySyndrome w v);
-    checked =
-        check-error k (paritySyndrome w v) h parity-lt
-        ∙ ap (λ (y : ℕ). checkSyndrome w f v ⊕ y) e
-        ∙ xor-self (checkSyndrome w f v);
-  }
-
--- in two tracks: the errors sum to S1, and account for S2
+-- their sum is S1, and they account for S2
 pub corrects-two : (w f : ℕ) → f < 2 ^ w → (v : ℕ → ℕ) → ((k : ℕ) → k ≤ w → v k < 2 ^ w) → (i j a b : ℕ) → i ≤ w → j ≤ w → a < 2 ^ w → b < 2 ^ w
     → a ⊕ b ≡ paritySyndrome w v → weighed w f i a ⊕ weighed w f j b ≡ checkSyndrome w f v
     → IsGroup w f (λ k. v k ⊕ errorAt i a k ⊕ errorAt j b k)

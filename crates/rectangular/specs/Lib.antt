@@ -1,3 +1,4 @@
 pub mod Constants
 pub mod Group
+pub mod Syndrome
 pub mod Correction

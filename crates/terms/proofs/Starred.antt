@@ -12,7 +12,8 @@ use Rattle.register.specs.Sum.{xorSum}
 use Rattle.answer.specs.Answer.{outputAfter}
 use Rattle.group_code.specs.Code.{decoded, legal}
 use Rattle.group_code.specs.Word.{legalWord, valueOf, illegality, mirrored, reversedWord, forwardWord}
-use Rattle.rectangular.specs.Correction.{pointedTracks, paritySyndrome, checkSyndrome, weighed, erasure, secondError, errorAt, oneTrack, twoTracks, judged}
+use Rattle.rectangular.specs.Correction.{pointedTracks, errorAt, oneTrack, twoTracks, judged}
+use Rattle.rectangular.specs.Syndrome.{paritySyndrome, checkSyndrome, weighed, erasure, secondError}
 use Rattle.rectangular.specs.Group.{information, check, character, column, track, group, informationOf}
 use Rattle.rectangular.specs.Correction.{changedMap}
 use Rattle.register.specs.Parity.{parity, parityDigits}

@@ -8,7 +8,6 @@ use lib.ListN.{getD}
 use Rattle.indexed.specs.List.{tabulate}
 use Rattle.register.specs.Xor.{_⊕_}
 use Rattle.rectangular.specs.Correction.{errorAt}
-use Rattle.judge6250.specs.Judged.{correctedValues}
 use Rattle.group6250.specs.Packed.{valuesOf}
 use Rattle.judge6250.proofs.Corrected.{mark-lt, parity-here, parity-elsewhere, corrected-values, changed-marks}
 use Rattle.judge6250.proofs.judge.corrected.Statement.{statement}
@@ -26,42 +25,40 @@ mark-requires c κs = search needs
 mark-requires-2 : tie.Need-mark-requires-2
 mark-requires-2 c κs = search needs
 
-add-t14 : tie.Need-add-t14
-add-t14 c =
-    let args = c .before .before .before .before .before .before .before .args in
-    let first : c .before .mark .result < 512 = rw (c .before .mark .ensures) (mark-lt (args .first) (args .error) (search needs)) in
-    let second : c .mark2 .result < 512 = rw (c .mark2 .ensures) (mark-lt (args .second) (args .other) (search needs)) in
+add-t12 : tie.Need-add-t12
+add-t12 c =
+    let args = c .before .before .before .before .before .before .before .before .before .args in
+    let first : c .before .mark .result < 512 = rw (c .before .mark .ensures) (mark-lt (args .pair .first) (args .pair .error) (search needs)) in
+    let second : c .mark2 .result < 512 = rw (c .mark2 .ensures) (mark-lt (args .pair .second) (args .pair .other) (search needs)) in
     search needs
 
 returns : tie.Need-returns
-unfolding correctedValues
 returns c =
     let joined = c .before .before .before .before .before in
-    let start = joined .before .before in
+    let start = joined .before .before .before .before in
     let args = start .args in
     let g = args .group in
-    let parity1 : joined .before .if1 .parity ≡ g .parity ⊕ errorAt (args .first) (args .error) 8 =
-    ⊎-elim (λ w. parity-here (g .parity) (joined .before .if1 .parity) (args .first) (args .error) (w .0 .taken) (w .1))
-    (λ w. parity-elsewhere (g .parity) (joined .before .if1 .parity) (args .first) (args .error) (w .0 .left) (w .1)) (joined .before .if1 .came) in
-    let parity2 : joined .if2 .parity ≡ joined .before .if1 .parity ⊕ errorAt (args .second) (args .other) 8 =
-    ⊎-elim (λ w. parity-here (joined .before .if1 .parity) (joined .if2 .parity) (args .second) (args .other) (w .0 .taken) (w .2))
-    (λ w. parity-elsewhere (joined .before .if1 .parity) (joined .if2 .parity) (args .second) (args .other) (w .0 .left) (w .1)) (joined .if2 .came) in
-    let values : correctedValues (record {
+    let parity1 : joined .before .before .if1 .parity ≡ g .parity ⊕ errorAt (args .pair .first) (args .pair .error) 8 =
+    ⊎-elim (λ w. parity-here (g .parity) (joined .before .before .if1 .parity) (args .pair .first) (args .pair .error) (w .0 .taken) (w .2))
+    (λ w. parity-elsewhere (g .parity) (joined .before .before .if1 .parity) (args .pair .first) (args .pair .error) (w .0 .left) (w .1)) (joined .before .before .if1 .came) in
+    let parity2 : joined .if2 .parity ≡ joined .before .before .if1 .parity ⊕ errorAt (args .pair .second) (args .pair .other) 8 =
+    ⊎-elim (λ w. parity-here (joined .before .before .if1 .parity) (joined .if2 .parity) (args .pair .second) (args .pair .other) (w .0 .taken) (w .3))
+    (λ w. parity-elsewhere (joined .before .before .if1 .parity) (joined .if2 .parity) (args .pair .second) (args .pair .other) (w .0 .left) (w .1)) (joined .if2 .came) in
+    let values : valuesOf (record {
       tracks = g .tracks ⊕ c .before .before .before .before .placed .result ⊕ c .before .before .placed2 .result;
       parity = joined .if2 .parity;
-      changed = c .before .mark .result + c .mark2 .result;
-    }) ≡ tabulate 9 (λ k. getD (valuesOf g) k 0 ⊕ errorAt (args .first) (args .error) k ⊕ errorAt (args .second) (args .other) k) =
+    }) ≡ tabulate 9 (λ k. getD (valuesOf g) k 0 ⊕ errorAt (args .pair .first) (args .pair .error) k ⊕ errorAt (args .pair .second) (args .pair .other) k) =
     ap₂ (λ (x y : ℕ). valuesOf (record { tracks = g .tracks ⊕ x ⊕ y; parity = joined .if2 .parity }))
     (c .before .before .before .before .placed .ensures) (c .before .before .placed2 .ensures)
-    ∙ corrected-values g (args .first) (args .error) (args .second) (args .other) (search needs) (search needs) (search needs) (search needs)
-    (joined .if2 .parity) (parity2 ∙ ap (λ (x : ℕ). x ⊕ errorAt (args .second) (args .other) 8) parity1) in (
+    ∙ corrected-values g (args .pair .first) (args .pair .error) (args .pair .second) (args .pair .other) (search needs) (search needs) (search needs) (search needs)
+    (joined .if2 .parity) (parity2 ∙ ap (λ (x : ℕ). x ⊕ errorAt (args .pair .second) (args .pair .other) 8) parity1) in (
       values,
       ap₂ _+_ (c .before .mark .ensures) (c .mark2 .ensures)
-          ∙ changed-marks (λ k. getD (valuesOf g) k 0) (args .first) (args .error) (args .second) (args .other) (search needs) (search needs)
+          ∙ changed-marks (λ k. getD (valuesOf g) k 0) (args .pair .first) (args .pair .error) (args .pair .second) (args .pair .other) (search needs) (search needs)
           (start .pre .2) _ values (valuesOf g) (λ k. refl),
     )
 
 pub corrected-spec : {M : Type 1} → statement M
 corrected-spec =
     tie.close
-    (tie.spec placed-requires placed-requires-2 mark-requires mark-requires-2 add-t14 returns)
+    (tie.spec placed-requires placed-requires-2 mark-requires mark-requires-2 add-t12 returns)

@@ -5,7 +5,7 @@ use mathlib.Core.Bool.{Bool, cond}
 use Prim.Native.Nat.{_^_}
 use borrow.Author.Needs.{needs}
 use borrow.Author.Tests.{eq-eqb, ne-eqb}
-use Rattle.judge6250.specs.Judged.{markAt}
+use Rattle.judge6250.specs.Told.{markAt}
 use Rattle.judge6250.proofs.Corrected.{mark-fits}
 use Rattle.judge6250.proofs.judge.mark.Statement.{statement}
 use Rattle.judge6250.proofs.judge.mark.Tie as tie

@@ -8,7 +8,7 @@ use Rattle.indexed.specs.List.{tabulate, tabulateFrom}
 use Rattle.register.specs.Shift.{shift, shifts}
 use Rattle.register.specs.Sum.{xorSum}
 use Rattle.rectangular.specs.Constants.{feedback, exponent}
-use Rattle.rectangular.specs.Correction.{erasure}
+use Rattle.rectangular.specs.Syndrome.{erasure}
 use Rattle.group6250.specs.Packed.{byteAt, bytesOf}
 use Rattle.products.proofs.Matrix.{at-known}
 use Rattle.products.proofs.product.erasure_columns.Statement.{statement}

@@ -4,7 +4,7 @@ use mathlib.Core.Path.{_∙_}
 use native.Mathlib.Omega.{arith}
 use borrow.Author.Needs.{needs}
 use Rattle.rectangular.specs.Constants.{feedback, exponent}
-use Rattle.rectangular.specs.Correction.{erasure}
+use Rattle.rectangular.specs.Syndrome.{erasure}
 use Rattle.products.proofs.Matrix.{product-linear, erasure-linear}
 use Rattle.products.proofs.product.erasure_product.Statement.{statement}
 use Rattle.products.proofs.product.erasure_product.Tie as tie

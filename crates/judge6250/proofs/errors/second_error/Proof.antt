@@ -1,4 +1,4 @@
--- `judge6250::judge::second_error` meets its contract.
+-- `judge6250::errors::second_error` meets its contract.
 -- Assumes nothing.
 use mathlib.Core.Path.{sym, ap, _∙_}
 use mathlib.Core.Bool.{Bool, cond}
@@ -8,9 +8,9 @@ use borrow.Author.Tests.{lt-ltb, le-ltb}
 use Rattle.register.specs.Shift.{shifts}
 use Rattle.register.specs.Xor.{_⊕_}
 use Rattle.rectangular.specs.Constants.{feedback, exponent}
-use Rattle.rectangular.specs.Correction.{erasure, secondError}
-use Rattle.judge6250.proofs.judge.second_error.Statement.{statement}
-use Rattle.judge6250.proofs.judge.second_error.Tie as tie
+use Rattle.rectangular.specs.Syndrome.{erasure, secondError}
+use Rattle.judge6250.proofs.errors.second_error.Statement.{statement}
+use Rattle.judge6250.proofs.errors.second_error.Tie as tie
 
 -- both syndromes, in the scale of the first track
 abbrev both : ℕ → ℕ → ℕ → ℕ

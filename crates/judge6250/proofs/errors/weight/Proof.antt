@@ -1,11 +1,11 @@
--- `judge6250::judge::weight` meets its contract.
+-- `judge6250::errors::weight` meets its contract.
 -- Assumes nothing.
 use mathlib.Core.Path.{sym, _∙_}
 use borrow.Author.Needs.{needs}
 use Rattle.rectangular.specs.Constants.{feedback}
 use Rattle.rectangular.proofs.Syndrome.{weighed-low, weighed-parity}
-use Rattle.judge6250.proofs.judge.weight.Statement.{statement}
-use Rattle.judge6250.proofs.judge.weight.Tie as tie
+use Rattle.judge6250.proofs.errors.weight.Statement.{statement}
+use Rattle.judge6250.proofs.errors.weight.Tie as tie
 
 forward-power-requires : tie.Need-forward-power-requires
 forward-power-requires c κs = search needs

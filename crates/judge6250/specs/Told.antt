@@ -1,4 +1,4 @@
--- What the code tells of a judgement: the values of the group that fits, and the tracks that it changes.
+-- What the code tells of errors and of a judgement.
 -- Assumes nothing.
 use Prim.Native.Nat.{ℕ, _^_}
 use mathlib.Core.Bool.{cond}
@@ -6,17 +6,20 @@ use mathlib.Core.List.{List}
 use lib.Dec.{eqb}
 use Rattle.rectangular.specs.Constants.{tracks}
 use Rattle.rectangular.specs.Correction.{Judgement, corrected, manyPointed, noGroup, changedMap}
+use Rattle.rectangular.specs.Syndrome as syndrome
 use Rattle.group6250.specs.Packed.{valuesOf}
-use Rattle.judge6250.specs.declared.judge.Correction.{Correction}
+use Rattle.judge6250.specs.declared.errors.Errors.{Errors}
+use Rattle.judge6250.specs.declared.errors.Errors.the-variants.{In, TooMany, Unaccounted}
 use Rattle.judge6250.specs.declared.judge.Judged.{Judged}
 use Rattle.judge6250.specs.declared.judge.Judged.the-variants.{Corrected, ManyPointed, NoGroup}
 
--- the nine values of a group that fits
-unfoldable pub correctedValues : Correction → List ℕ
-correctedValues c = valuesOf (record { tracks = c .tracks; parity = c .parity })
+abbrev pub toldErrors : Errors → syndrome.Errors
+toldErrors (In pair) = syndrome.errorsIn (pair .first) (pair .error) (pair .second) (pair .other)
+toldErrors TooMany = syndrome.tooMany
+toldErrors Unaccounted = syndrome.unaccounted
 
 abbrev pub toldJudged : Judged → Judgement
-toldJudged (Corrected c) = corrected (correctedValues c)
+toldJudged (Corrected c) = corrected (valuesOf (c .group))
 toldJudged ManyPointed = manyPointed
 toldJudged NoGroup = noGroup
 

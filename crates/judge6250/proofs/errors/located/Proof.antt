@@ -1,4 +1,4 @@
--- `judge6250::judge::located` meets its contract. The loop's invariant: the register is S1, shifted once for each track that was
+-- `judge6250::errors::located` meets its contract. The loop's invariant: the register is S1, shifted once for each track that was
 -- passed, and none of those accounts for S2.
 -- Assumes nothing.
 use mathlib.Core.Path.{_≡_, refl, sym, ap, _∙_}
@@ -10,13 +10,14 @@ use borrow.Author.Count.{below-none, below-more}
 use borrow.Author.Needs.{needs}
 use borrow.Author.Tests.{eq-eqb, ne-eqb}
 use lib.Dec.{eqb}
+use Rattle.indexed.specs.List.{firstBelow}
 use Rattle.register.specs.Shift.{shifts}
 use Rattle.rectangular.specs.Constants.{feedback, timesT}
-use Rattle.rectangular.specs.Correction.{weighed}
+use Rattle.rectangular.specs.Syndrome.{weighed, firstAccounting}
 use Rattle.rectangular.proofs.Syndrome.{weighed-low, weighed-parity}
 use Rattle.indexed.proofs.Below.{first-below-at, first-below-none}
-use Rattle.judge6250.proofs.judge.located.Statement.{statement}
-use Rattle.judge6250.proofs.judge.located.Tie as tie
+use Rattle.judge6250.proofs.errors.located.Statement.{statement}
+use Rattle.judge6250.proofs.errors.located.Tie as tie
 
 -- track k does not account for S2
 abbrev Fails : ℕ → ℕ → ℕ → Type 0
@@ -34,6 +35,7 @@ unfolding shifts
 loop-holds c = (search needs, refl, below-none (Fails (c .args .s1) (c .args .s2)))
 
 returns : tie.Need-returns Inv-loop μ-loop
+unfolding firstAccounting firstBelow
 returns c =
     let at = c .before .before .before .loop in
     let args = c .before .before .before .before .args in
@@ -61,6 +63,7 @@ loop-again c =
     )
 
 returns-2 : tie.Need-returns-2 Inv-loop μ-loop
+unfolding firstAccounting firstBelow
 returns-2 c =
     let at = c .before .before .loop in
     let args = c .before .before .before .args in
@@ -68,6 +71,7 @@ returns-2 c =
     (eq-eqb _ _ (weighed-parity 8 feedback 8 _ (omega arith) ∙ sym (c .if2 .taken))))
 
 returns-3 : tie.Need-returns-3 Inv-loop μ-loop
+unfolding firstAccounting firstBelow
 returns-3 c =
     let at = c .before .before .loop in
     let args = c .before .before .before .args in
