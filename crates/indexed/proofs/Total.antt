@@ -4,6 +4,7 @@ use mathlib.Core.Path.{_≡_, refl, sym, ap, ap₂, _∙_}
 use mathlib.Core.Bool.{Bool, cond}
 use Prim.Native.Nat.{ℕ, zero, suc, _+_, _*_, _<_}
 use native.Mathlib.Nat.{mul-zero, mul-suc, add-zero, add-suc, add-assoc, le-refl}
+use native.Mathlib.Decide.{decLt}
 use native.Mathlib.Omega.{arith}
 use borrow.Author.Tests.{eq-eqb}
 use lib.Dec.{eqb}
@@ -60,3 +61,18 @@ differences-blocks size (suc n) u v =
     ap (λ (k : ℕ). differences k u v) (mul-suc size n)
     ∙ differences-split (size * n) size u v
     ∙ ap (λ (x : ℕ). x + differences size (λ k. u (size * n + k)) (λ k. v (size * n + k))) (differences-blocks size n u v)
+
+-- a sum is 0 exactly if each of its terms is
+pub total-none : (n : ℕ) (f : ℕ → ℕ) → ((k : ℕ) → k < n → f k ≡ 0) → total n f ≡ 0
+unfolding total
+total-none zero f h = refl
+total-none (suc n) f h = omega (arith, total-none n f (λ k q. h k (omega arith)), h n (omega arith))
+
+pub none-of-total : (n : ℕ) (f : ℕ → ℕ) → total n f ≡ 0 → (k : ℕ) → k < n → f k ≡ 0
+unfolding total
+none-of-total zero f e k h = absurd (omega arith)
+none-of-total (suc n) f e k h = by (decLt k n) (none-of-total n f (omega arith) k)
+  where
+    by : Dec (k < n) → (k < n → f k ≡ 0) → f k ≡ 0
+    by (yes b) ih = ih b
+    by (no b) ih = let same : k ≡ n = omega arith in rw same (omega arith)

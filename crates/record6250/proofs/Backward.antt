@@ -1,38 +1,35 @@
--- Reading backward answers as reading the forward picture does, places and data included (the notice, second term).
+-- Reading backward answers as reading forward does, places and data included (the notice, second term).
 -- Assumes nothing.
 use mathlib.Core.Path.{_≡_, refl, sym, ap, ap₂, _∙_}
-use mathlib.Core.Bool.{Bool, true, false, cond, not}
-use mathlib.Core.List.{List, [], _∷_, _++_, append-nil}
-use Prim.Native.Nat.{ℕ, _+_, _-_, _*_, _/_, _<_}
-use native.Mathlib.Omega.{arith}
+use mathlib.Core.Bool.{Bool, true, false, cond, not, _||_}
+use mathlib.Core.List.{List, [], _∷_}
+use Prim.Native.Nat.{ℕ, _-_, _*_, _<_}
 use borrow.Author.Tests.{ltb-true}
 use lib.Count.{ones}
 use lib.Dec.{leb, ltb}
-use lib.ListN.{length, getD, drop, length-append, length-drop, drop-of-length-le}
-use lib.Seq.{ext-getD}
+use lib.ListN.{length}
 use Rattle.indexed.specs.List.{blocks, firstBelow, total}
-use Rattle.slices.specs.Turned.{turnedPlace}
 use Rattle.indexed.proofs.Below.{first-below-same}
-use Rattle.indexed.proofs.Blocks.{blocks-same, getD-blocks}
-use Rattle.indexed.proofs.Tabulate.{length-tabulate, getD-tabulate}
+use Rattle.indexed.proofs.Blocks.{blocks-same}
 use Rattle.indexed.proofs.Total.{total-same}
 use Rattle.answer.specs.Answer.{Answer, delivered, refused, refusedFor}
 use Rattle.answer.specs.declared.Reason.the-variants.{Length, Space, StrayBits}
-use Rattle.rectangular.specs.Correction.{Judgement}
-use Rattle.rectangular.specs.Correction.{changedMap}
-use Rattle.group_code.specs.Word.{forwardWord}
-use Rattle.record6250.specs.Group.{stray, isCorrected, reasonOf, rightBytes, rightWords}
-use Rattle.record6250.specs.Picture.{groupRead, mapRead, pictureWords, pictureMaps, turnedWords}
-use Rattle.record6250.specs.Read.{lengthsSuit, paddingSuits, unpadded, readGroup, readMap, judgement, changedTracks, firstStray, firstUnfit, readBody, readData, changes, judgedAnswer, readAnswer}
+use Rattle.rectangular.specs.Correction.{Judgement, changedMap}
+use Rattle.record6250.specs.Group.{isCorrected, reasonOf, rightBytes, rightWords}
+use Rattle.record6250.specs.Picture.{groupLent, groupRead, pictureMaps, turnedNumbers}
+use Rattle.record6250.specs.Read.{lengthsSuit, paddingSuits, unpadded, readNumbers, readGroup, readMap, judgement, changedTracks, strayAt, firstStray, firstUnfit, readBody, readData, changes, judgedAnswer, answerIf, readAnswer}
+use Rattle.record6250.specs.Tape.{strayNumbers}
 use Rattle.record6250.proofs.Answer.{length-refused}
-use Rattle.record6250.proofs.Picture.{length-picture, picture-twice, length-maps, maps-twice}
-use Rattle.record6250.proofs.Reading.{length-read, lengths-told}
+use Rattle.record6250.proofs.Picture.{length-maps, map-turned, length-turned, lent-turned, read-turned}
+use Rattle.record6250.proofs.Reading.{lengths-told}
+use Rattle.record6250.proofs.Tape.{stray-turned}
 
 -- ---- two readings whose groups are alike are answered alike
 
 module _ (b c : Bool) (words maps words' maps' : List ℕ) (as-many : length maps' ≡ length maps)
     (groups : (g : ℕ) → g < length maps → readGroup c words' maps' g ≡ readGroup b words maps g)
-    (pointers : (g : ℕ) → g < length maps → readMap c words' maps' g ≡ readMap b words maps g) where
+    (pointers : (g : ℕ) → g < length maps → readMap c words' maps' g ≡ readMap b words maps g)
+    (strays : (g : ℕ) → g < length maps → strayAt c words' maps' g ≡ strayAt b words maps g) where
   same-judgement : (g : ℕ) → g < length maps → judgement c words' maps' g ≡ judgement b words maps g
   unfolding judgement
   same-judgement g h = simp (groups g h, pointers g h)
@@ -44,8 +41,7 @@ module _ (b c : Bool) (words maps words' maps' : List ℕ) (as-many : length map
   pub same-stray : firstStray c words' maps' ≡ firstStray b words maps
   unfolding firstStray
   same-stray =
-      ap (λ (n : ℕ). firstBelow n (λ g. stray (readGroup c words' maps' g) (readMap c words' maps' g))) as-many
-      ∙ first-below-same (length maps) _ _ (λ g h. ap₂ stray (groups g h) (pointers g h))
+      ap (λ (n : ℕ). firstBelow n (strayAt c words' maps')) as-many ∙ first-below-same (length maps) _ _ strays
 
   same-unfit : firstUnfit c words' maps' ≡ firstUnfit b words maps
   unfolding firstUnfit
@@ -89,106 +85,66 @@ module _ (b c : Bool) (words maps words' maps' : List ℕ) (as-many : length map
       by false e =
           ap₂ (λ (l : List ℕ) (n : ℕ). cond (paddingSuits l) (delivered (length (unpadded l) ∷ n ∷ [])) (refused 6 0)) same-body same-changes
 
--- ---- a reading and its forward picture
-
-module _ (backward : Bool) (words maps : List ℕ) where
-  abbrev picture : List ℕ
-  picture = pictureWords backward (length maps) words
-
-  abbrev pictured : List ℕ
-  pictured = pictureMaps backward maps
-
-  length-pictured : length pictured ≡ length maps
-  length-pictured = length-maps backward maps
-
-  picture-group : (g : ℕ) → g < length maps → readGroup false picture pictured g ≡ readGroup backward words maps g
-  unfolding readGroup groupRead forwardWord turnedPlace pictureWords
-  picture-group g h =
-      ext-getD 0 _ _ (length-tabulate 9 _ ∙ sym (length-read backward (length maps) words g))
-      (λ k b. let nine : k < 9 = rw (length-tabulate 9 (λ k. getD picture (9 * g + k) 0)) at b in
-      getD-tabulate 9 (λ k. getD picture (9 * g + k) 0) k 0 nine
-      ∙ getD-blocks 9 (length maps) _ (λ j q. length-read backward (length maps) words j) g k 0 h nine)
-
-  picture-map : (g : ℕ) → g < length maps → readMap false picture pictured g ≡ readMap backward words maps g
-  unfolding readMap mapRead turnedPlace pictureMaps
-  picture-map g h = getD-tabulate (length maps) _ g 0 h
-
-  -- the answer and the data of a reading are those of its forward picture
-  backward-as-forward : length words ≡ 9 * length maps → (space : ℕ)
-      → (readAnswer backward words maps space ≡ readAnswer false picture pictured space) × (readData backward words maps ≡ readData false picture pictured)
-  unfolding readAnswer
-  backward-as-forward long space = (
-    sym
-        (ap₂ (λ (w m : ℕ). cond (lengthsSuit w m) (cond (leb (7 * m - 1) space) (cond (ltb (firstStray false picture pictured) m) (refusedFor StrayBits (firstStray false picture pictured)) (judgedAnswer false picture pictured)) (refusedFor Space 0)) (refusedFor Length 0))
-        (length-picture backward (length maps) words ∙ sym long) length-pictured
-        ∙ ap₂ (λ (s : ℕ) (a : Answer). cond (lengthsSuit (length words) (length maps)) (cond (leb (7 * length maps - 1) space) (cond (ltb s (length maps)) (refusedFor StrayBits s) a) (refusedFor Space 0)) (refusedFor Length 0))
-        (same-stray backward false words maps picture pictured length-pictured picture-group picture-map)
-        (same-answer backward false words maps picture pictured length-pictured picture-group picture-map)),
-    sym (same-data backward false words maps picture pictured length-pictured picture-group picture-map),
-  )
-
 -- ---- a reading, and the same turned
 
-pub length-turned : (words : List ℕ) → length (turnedWords words) ≡ length words
-unfolding turnedWords
-length-turned words =
-    length-append (pictureWords true (length words / 9) words) (drop (9 * (length words / 9)) words)
-    ∙ omega (arith, length-picture true (length words / 9) words, length-drop (9 * (length words / 9)) words)
-
-pub turned-whole : (words : List ℕ) (n : ℕ) → length words ≡ 9 * n → turnedWords words ≡ pictureWords true n words
-unfolding turnedWords
-turned-whole words n long =
-    let groups : length words / 9 ≡ n = omega arith in
-    ap₂ _++_ (ap (λ (m : ℕ). pictureWords true m words) groups)
-    (drop-of-length-le words {i = 9 * (length words / 9)} (omega arith))
-    ∙ append-nil (pictureWords true n words)
-
-module _ (words maps : List ℕ) where
+module _ (backward : Bool) (words maps : List ℕ) where
   abbrev turnedMaps : List ℕ
   turnedMaps = pictureMaps true maps
 
-  -- what is said of a reading that is turned: the same answer with any space, and the same data
-  abbrev Alike : Bool → Type 0
-  Alike backward =
-      ((space : ℕ) → readAnswer (not backward) (turnedWords words) turnedMaps space ≡ readAnswer backward words maps space)
-      × (readData (not backward) (turnedWords words) turnedMaps ≡ readData backward words maps)
+  as-many : length turnedMaps ≡ length maps
+  as-many = length-maps true maps
+
+  pointers-turned : (g : ℕ) → g < length maps → readMap (not backward) (turnedNumbers words) turnedMaps g ≡ readMap backward words maps g
+  unfolding readMap
+  pointers-turned g h = map-turned backward maps g h
 
   module _ (long : length words ≡ 9 * length maps) where
-    turned-long : length (turnedWords words) ≡ 9 * length turnedMaps
-    turned-long = length-turned words ∙ long ∙ ap (λ (n : ℕ). 9 * n) (sym (length-maps true maps))
+    groups-turned : (g : ℕ) → g < length maps → readGroup (not backward) (turnedNumbers words) turnedMaps g ≡ readGroup backward words maps g
+    unfolding readGroup
+    groups-turned g h =
+        ap (λ (n : ℕ). groupRead (not backward) n (turnedNumbers words) g) as-many ∙ read-turned words (length maps) long backward g h
 
-    -- turned again, the words are as they were
-    again : pictureWords true (length turnedMaps) (turnedWords words) ≡ words
-    again =
-        ap₂ (pictureWords true) (length-maps true maps) (turned-whole words (length maps) long)
-        ∙ picture-twice words (length maps) long true
+    strays-turned : (g : ℕ) → g < length maps → strayAt (not backward) (turnedNumbers words) turnedMaps g ≡ strayAt backward words maps g
+    unfolding strayAt readNumbers
+    strays-turned g h =
+        ap₂ (λ (l : List ℕ) (m : ℕ). strayNumbers l || ltb 511 m)
+        (ap (λ (n : ℕ). groupLent (not backward) n (turnedNumbers words) g) as-many ∙ lent-turned words (length maps) long backward g h)
+        (pointers-turned g h)
+        ∙ ap (λ (t : Bool). t || ltb 511 (readMap backward words maps g)) (stray-turned (groupLent backward (length maps) words g))
 
-    turned-alike : (backward : Bool) → Alike backward
-    turned-alike true = (
-      λ space. ap (λ (l : List ℕ). readAnswer false l turnedMaps space) (turned-whole words (length maps) long)
-          ∙ sym (backward-as-forward true words maps long space .0),
-      ap (λ (l : List ℕ). readData false l turnedMaps) (turned-whole words (length maps) long)
-          ∙ sym (backward-as-forward true words maps long 0 .1),
-    )
-    turned-alike false = (
-      λ space. backward-as-forward true (turnedWords words) turnedMaps turned-long space .0
-          ∙ ap₂ (λ (l m : List ℕ). readAnswer false l m space) again (maps-twice true maps),
-      backward-as-forward true (turnedWords words) turnedMaps turned-long 0 .1 ∙ ap₂ (readData false) again (maps-twice true maps),
-    )
+    abbrev turned-judged : judgedAnswer (not backward) (turnedNumbers words) turnedMaps ≡ judgedAnswer backward words maps
+    turned-judged = same-answer backward (not backward) words maps (turnedNumbers words) turnedMaps as-many groups-turned pointers-turned strays-turned
+
+    abbrev turned-stray : firstStray (not backward) (turnedNumbers words) turnedMaps ≡ firstStray backward words maps
+    turned-stray = same-stray backward (not backward) words maps (turnedNumbers words) turnedMaps as-many groups-turned pointers-turned strays-turned
+
+  suits-turned : lengthsSuit (length (turnedNumbers words)) (length turnedMaps) ≡ lengthsSuit (length words) (length maps)
+  suits-turned = ap₂ lengthsSuit (length-turned words) as-many
 
   -- whatever the lengths, the answer is the same; and so are the data, if the lengths suit
-  pub turned-answer : (backward : Bool) (space : ℕ)
-      → readAnswer (not backward) (turnedWords words) turnedMaps space ≡ readAnswer backward words maps space
-  turned-answer backward space = by (lengthsSuit (length words) (length maps)) refl
+  answer-turned : (enough : Bool) → answerIf (not backward) (turnedNumbers words) turnedMaps enough ≡ answerIf backward words maps enough
+  unfolding answerIf
+  answer-turned enough = by (lengthsSuit (length words) (length maps)) refl
     where
-      by : (b : Bool) → lengthsSuit (length words) (length maps) ≡ b
-          → readAnswer (not backward) (turnedWords words) turnedMaps space ≡ readAnswer backward words maps space
-      by true e = turned-alike (lengths-told (length words) (length maps) e .2) backward .0 space
+      by : (t : Bool) → lengthsSuit (length words) (length maps) ≡ t
+          → answerIf (not backward) (turnedNumbers words) turnedMaps enough ≡ answerIf backward words maps enough
+      by true e =
+          let long = lengths-told (length words) (length maps) e .2 in
+          ap₂ (λ (t : Bool) (n : ℕ). cond t (cond enough (cond (ltb (firstStray (not backward) (turnedNumbers words) turnedMaps) n) (refusedFor StrayBits (firstStray (not backward) (turnedNumbers words) turnedMaps)) (judgedAnswer (not backward) (turnedNumbers words) turnedMaps)) (refusedFor Space 0)) (refusedFor Length 0))
+          suits-turned as-many
+          ∙ ap₂ (λ (s : ℕ) (a : Answer). cond (lengthsSuit (length words) (length maps)) (cond enough (cond (ltb s (length maps)) (refusedFor StrayBits s) a) (refusedFor Space 0)) (refusedFor Length 0))
+          (turned-stray long) (turned-judged long)
       by false e =
-          length-refused (not backward) (turnedWords words) turnedMaps space
-          (ap₂ lengthsSuit (length-turned words) (length-maps true maps) ∙ e)
-          ∙ sym (length-refused backward words maps space e)
+          length-refused (not backward) (turnedNumbers words) turnedMaps enough (suits-turned ∙ e)
+          ∙ sym (length-refused backward words maps enough e)
 
-  pub turned-data : (backward : Bool) → lengthsSuit (length words) (length maps) ≡ true
-      → readData (not backward) (turnedWords words) turnedMaps ≡ readData backward words maps
-  turned-data backward e = turned-alike (lengths-told (length words) (length maps) e .2) backward .1
+  pub turned-answer : (space : ℕ) → readAnswer (not backward) (turnedNumbers words) turnedMaps space ≡ readAnswer backward words maps space
+  unfolding readAnswer
+  turned-answer space =
+      ap (λ (n : ℕ). answerIf (not backward) (turnedNumbers words) turnedMaps (leb (7 * n - 1) space)) as-many
+      ∙ answer-turned (leb (7 * length maps - 1) space)
+
+  pub turned-data : lengthsSuit (length words) (length maps) ≡ true → readData (not backward) (turnedNumbers words) turnedMaps ≡ readData backward words maps
+  turned-data e =
+      let long = lengths-told (length words) (length maps) e .2 in
+      same-data backward (not backward) words maps (turnedNumbers words) turnedMaps as-many (groups-turned long) pointers-turned (strays-turned long)

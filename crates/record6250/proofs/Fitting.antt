@@ -10,28 +10,28 @@ use Prim.Native.Nat.{ℕ, _*_, _<_}
 use native.Mathlib.Nat.{zero-lt-suc}
 use native.Mathlib.Omega.{arith}
 use borrow.Author.Tests.{not-false}
-use lib.Dec.{eqb}
 use lib.ListN.{length, getD}
 use Rattle.answer.specs.Answer.{delivered, refused}
-use Rattle.indexed.proofs.Blocks.{length-blocks, blocks-same, cut-blocks, getD-blocks, join-cuts}
-use Rattle.indexed.proofs.Total.{total-same, differences-same, differences-blocks}
+use Rattle.indexed.proofs.Blocks.{length-blocks, blocks-same, cut-blocks, join-cuts}
+use Rattle.indexed.specs.Differ.{differences}
+use Rattle.indexed.proofs.Total.{total-same}
 use Rattle.rectangular.specs.Constants.{feedback}
 use Rattle.rectangular.specs.Correction.{Judgement, corrected}
 use Rattle.rectangular.specs.Group.{group}
 use Rattle.rectangular.proofs.Equations.{Below}
 use Rattle.record6250.specs.Fits.{IsData, Passes, FitsGroup, Fits, wordsChanged}
 use Rattle.record6250.specs.Group.{isCorrected, rightValues, rightBytes, rightWords}
-use Rattle.record6250.specs.Picture.{groupRead, pictureWords}
+use Rattle.record6250.specs.Picture.{groupRead}
 use Rattle.record6250.specs.Read.{readGroup, readMap, judgement, changedTracks, firstUnfit, readBody, readData, changes, paddingSuits, unpadded, judgedAnswer}
-use Rattle.record6250.specs.Record.{body, groupsFor, groupBytes, groupWords, firstGroups, writtenRecord}
+use Rattle.record6250.specs.Record.{body, groupsFor, groupBytes, groupWords, writtenRecord}
 use Rattle.record6250.proofs.Bounded.{blocks-bounded}
 use Rattle.record6250.proofs.Cases.{ThreeCases, cases}
 use Rattle.rectangular.proofs.Changed.{ones-changed}
 use Rattle.indexed.proofs.Below.{first-below-before, first-below-none}
 use Rattle.record6250.proofs.FittingGroup.{length-rightBytes, bytes-of-group, group-complete, corrected-fits}
 use Rattle.record6250.proofs.Padding.{length-body, body-suits, unpadded-body, body-below, length-unpadded, groups-of-unpadded, body-of-unpadded}
-use Rattle.record6250.proofs.Reading.{groups-within, words-below, length-read, length-groupBytes, groupBytes-bounded, unpadded-bounded, written-group}
-use Rattle.record6250.proofs.Record.{length-groupWords}
+use Rattle.record6250.proofs.Reading.{groups-within, words-below, length-groupBytes, groupBytes-bounded, unpadded-bounded}
+use Rattle.record6250.proofs.Record.{written-group}
 use Rattle.answer.proofs.Apart.{not-both}
 
 -- ---- what fits is delivered
@@ -72,16 +72,12 @@ module _ (backward : Bool) (words maps : List ℕ) (passes : Passes backward wor
 
     -- the words that differ, counted group by group
     changes-counted : changes backward words maps ≡ wordsChanged backward words maps bytes
-    unfolding changes changedTracks wordsChanged pictureWords writtenRecord firstGroups readGroup rightWords rightValues groupWords
+    unfolding changes changedTracks wordsChanged rightWords rightValues groupWords
     changes-counted =
         total-same (length maps) _ _
         (λ g h. ones-changed 9 (readGroup backward words maps g) (rightWords (judgement backward words maps g))
-        ∙ differences-same 9 _ _ _ _
-        (λ k b. ap₂ eqb
-        (sym (getD-blocks 9 (length maps) (groupRead backward (length maps) words) (λ g h. length-read backward (length maps) words g) g k 0 h b))
-        (ap (λ (j : Judgement). getD (rightWords j) k 0) (judged-right g h)
-        ∙ sym (getD-blocks 9 _ (λ g. groupWords (info g)) (λ g h. length-groupWords (info g)) g k 0 (omega (arith, fits .as-many)) b))))
-        ∙ sym (differences-blocks 9 (length maps) _ _)
+        ∙ ap (λ (right : List ℕ). differences 9 (λ k. getD (readGroup backward words maps g) k 0) (λ k. getD right k 0))
+        (ap rightWords (judged-right g h) ∙ sym (written-group bytes (length maps) g (omega (arith, fits .as-many)))))
 
     pub fits-delivered : (judgedAnswer backward words maps ≡ delivered (length bytes ∷ wordsChanged backward words maps bytes ∷ []))
         × (readData backward words maps ≡ bytes)

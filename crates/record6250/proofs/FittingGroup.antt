@@ -1,37 +1,32 @@
 -- Nine words that were read with their pointers: they are corrected exactly to the group whose words the pointers allow. The code
--- corrects values; a track that is not pointed has a legal word, so its word is right exactly if its value is.
+-- corrects values; a track that is not relied on has a legal word, so its word is right exactly if its value is.
 -- Assumes nothing.
 use mathlib.Core.Path.{_≡_, refl, sym, ap, subst, _∙_}
 use mathlib.Core.Bool.{Bool, true, false, false≢true}
-use mathlib.Core.List.{List, map}
-use mathlib.Core.Logic.{_⊎_, inl, inr}
+use mathlib.Core.List.{List}
+use mathlib.Core.Logic.{inl, inr}
 use Prim.Native.Nat.{ℕ, _-_, _<_}
 use native.Mathlib.Omega.{arith}
 use borrow.Author.Tests.{eqb-true, eqb-false, eq-eqb, ne-eqb}
-use lib.Bits.{bitOr}
 use lib.Dec.{eqb}
 use lib.ListN.{length, getD}
 use Rattle.indexed.specs.Differ.{differences}
-use Rattle.indexed.proofs.Map.{getD-map}
 use Rattle.indexed.proofs.Tabulate.{length-tabulate, tabulate-same}
 use Rattle.register.specs.Bit.{bit}
-use Rattle.register.proofs.Bit.{bit-lt}
-use Rattle.register.proofs.Xor.{digit}
 use Rattle.indexed.proofs.Total.{differences-same}
-use Rattle.register.proofs.Ones.{bit-or, bit-of-tabulate}
-use Rattle.group_code.specs.Code.{wordOf}
-use Rattle.group_code.specs.Word.{valueOf, illegality}
-use Rattle.group_code.proofs.Words.{value-lt, illegality-lt, value-of-word, word-of-value}
 use Rattle.rectangular.specs.Constants.{feedback}
 use Rattle.rectangular.specs.Correction.{pointedTracks, Allowed, Judgement, corrected, manyPointed, noGroup}
 use Rattle.rectangular.specs.Group.{track, group, informationOf, IsGroup}
 use Rattle.rectangular.proofs.Correction.{nine-sound, nine-complete}
-use Rattle.rectangular.proofs.Equations.{Below, getD-group, length-group, written-is-group, information-recovered, information-below, group-of-list}
+use Rattle.rectangular.proofs.Equations.{Below, getD-group, written-is-group, information-recovered, information-below, group-of-list}
 use Rattle.rectangular.proofs.Pointed.{outside}
 use Rattle.rectangular.proofs.Suits.{nine-tracks}
 use Rattle.rectangular.proofs.Symmetry.{column-ext}
-use Rattle.record6250.specs.Group.{illegalMap, pointed, judgedGroup, isCorrected, rightValues, rightBytes}
+use Rattle.record6250.specs.Group.{relied, judgedGroup, isCorrected, rightValues, rightBytes}
 use Rattle.record6250.specs.Record.{groupWords}
+use Rattle.record6250.specs.Track.{wordOn, valueOn, wordsOf}
+use Rattle.record6250.proofs.Relied.{unrelied-legal}
+use Rattle.record6250.proofs.Track.{value-on-lt, value-of-word-on, word-of-value-on, getD-wordsOf}
 
 -- ---- the seven bytes of a judgement
 
@@ -50,11 +45,9 @@ bytes-of-group info long small =
 -- ---- words against values
 
 -- the words of a group are those of its tracks, which are bytes
-pub group-word : (info : List ℕ) (k : ℕ) → k < 9 → getD (groupWords info) k 0 ≡ wordOf (track 8 feedback info k)
+pub group-word : (info : List ℕ) (k : ℕ) → k < 9 → getD (groupWords info) k 0 ≡ wordOn k (track 8 feedback info k)
 unfolding groupWords
-group-word info k h =
-    getD-map wordOf (group 8 feedback info) k 0 0 (omega (arith, length-group 8 feedback info))
-    ∙ ap wordOf (getD-group 8 feedback info k (omega arith))
+group-word info k h = getD-wordsOf (group 8 feedback info) k h ∙ ap (wordOn k) (getD-group 8 feedback info k (omega arith))
 
 pub tracks-group : (info : List ℕ) → Below 8 info → IsGroup 8 feedback (track 8 feedback info)
 tracks-group = written-is-group 8 feedback (nine-tracks .positive) (nine-tracks .fits)
@@ -67,85 +60,71 @@ same-test a b c d to from = by (eqb a b) refl
     by true e = sym (eq-eqb c d (to (eqb-true a b e)))
     by false e = sym (ne-eqb c d (λ q. eqb-false a b e (from q)))
 
--- of two digits, if none is 1 the second is 0
-second-zero : (a b : ℕ) → (a ≡ 0) ⊎ (a ≡ 1) → (b ≡ 0) ⊎ (b ≡ 1) → bitOr a b ≡ 0 → b ≡ 0
-second-zero a b p (inl q) e = q
-second-zero a b (inl p) (inr q) e = ap (λ (x : ℕ). bitOr x b) (sym p) ∙ e
-second-zero a b (inr p) (inr q) e =
-    let z : bitOr 1 1 ≡ 0 = subst (λ (y : ℕ). bitOr 1 y ≡ 0) q (subst (λ (x : ℕ). bitOr x b ≡ 0) p e) in absurd (omega arith)
-
 module _ (ws : List ℕ) (m : ℕ) where
-  unpointed-legal : (k : ℕ) → k < 9 → bit k (pointed ws m) ≡ 0 → illegality (getD ws k 0) ≡ 0
-  unfolding pointed illegalMap
-  unpointed-legal k h z =
-      sym (bit-of-tabulate 9 (λ k. illegality (getD ws k 0)) (λ k h. illegality-lt (getD ws k 0)) k h)
-      ∙ second-zero (bit k m) (bit k (illegalMap ws)) (digit (bit k m) (bit-lt k m)) (digit (bit k (illegalMap ws)) (bit-lt k (illegalMap ws)))
-      (sym (bit-or k m (illegalMap ws)) ∙ z)
-
-  none-pointed : length (pointedTracks 9 (pointed ws m)) ≡ 0 → (k : ℕ) → k < 9 → bit k (pointed ws m) ≡ 0
+  none-pointed : length (pointedTracks 9 (relied ws m)) ≡ 0 → (k : ℕ) → k < 9 → bit k (relied ws m) ≡ 0
   none-pointed e k h =
-      outside 9 (pointed ws m) (pointedTracks 9 (pointed ws m)) refl k h (λ t b. absurd (omega arith))
+      outside 9 (relied ws m) (pointedTracks 9 (relied ws m)) refl k h (λ t b. absurd (omega arith))
 
   module _ (below : (k : ℕ) → k < 9 → getD ws k 0 < 1024) where
     -- the words of some values: those are allowed exactly if these are
-    module _ (u right : ℕ → ℕ) (bytes : (k : ℕ) → k < 9 → u k < 256) (written : (k : ℕ) → k < 9 → right k ≡ wordOf (u k)) where
-      same-value : (k : ℕ) → k < 9 → getD ws k 0 ≡ right k → valueOf (getD ws k 0) ≡ u k
-      same-value k h e = ap valueOf (e ∙ written k h) ∙ value-of-word (u k) (bytes k h)
+    module _ (u right : ℕ → ℕ) (bytes : (k : ℕ) → k < 9 → u k < 256) (written : (k : ℕ) → k < 9 → right k ≡ wordOn k (u k)) where
+      same-value : (k : ℕ) → k < 9 → getD ws k 0 ≡ right k → valueOn k (getD ws k 0) ≡ u k
+      same-value k h e = ap (valueOn k) (e ∙ written k h) ∙ value-of-word-on k (u k) (bytes k h)
 
-      same-word : (k : ℕ) → k < 9 → bit k (pointed ws m) ≡ 0 → valueOf (getD ws k 0) ≡ u k → getD ws k 0 ≡ right k
+      same-word : (k : ℕ) → k < 9 → bit k (relied ws m) ≡ 0 → valueOn k (getD ws k 0) ≡ u k → getD ws k 0 ≡ right k
       same-word k h z e =
-          sym (word-of-value (getD ws k 0) (below k h) (unpointed-legal k h z)) ∙ ap wordOf e ∙ sym (written k h)
+          sym (word-of-value-on k (getD ws k 0) (below k h) (unrelied-legal ws m k h z)) ∙ ap (wordOn k) e ∙ sym (written k h)
 
-      same-differences : length (pointedTracks 9 (pointed ws m)) ≡ 0
-          → differences 9 (λ k. getD ws k 0) right ≡ differences 9 (λ k. valueOf (getD ws k 0)) u
+      same-differences : length (pointedTracks 9 (relied ws m)) ≡ 0
+          → differences 9 (λ k. getD ws k 0) right ≡ differences 9 (λ k. valueOn k (getD ws k 0)) u
       same-differences none =
           differences-same 9 _ right _ u
-          (λ k h. same-test (getD ws k 0) (right k) (valueOf (getD ws k 0)) (u k) (same-value k h) (same-word k h (none-pointed none k h)))
+          (λ k h. same-test (getD ws k 0) (right k) (valueOn k (getD ws k 0)) (u k) (same-value k h) (same-word k h (none-pointed none k h)))
 
-      allowed-values : Allowed 9 (pointed ws m) (λ k. getD ws k 0) right → Allowed 9 (pointed ws m) (λ k. valueOf (getD ws k 0)) u
+      allowed-values : Allowed 9 (relied ws m) (λ k. getD ws k 0) right → Allowed 9 (relied ws m) (λ k. valueOn k (getD ws k 0)) u
       unfolding Allowed
       allowed-values (inl a) = inl (a .0, omega (arith, same-differences (a .0)))
       allowed-values (inr a) = inr (a .0, a .1, λ k h z. same-value k h (a .2 k h z))
 
-      allowed-words : Allowed 9 (pointed ws m) (λ k. valueOf (getD ws k 0)) u → Allowed 9 (pointed ws m) (λ k. getD ws k 0) right
+      allowed-words : Allowed 9 (relied ws m) (λ k. valueOn k (getD ws k 0)) u → Allowed 9 (relied ws m) (λ k. getD ws k 0) right
       unfolding Allowed
       allowed-words (inl a) = inl (a .0, omega (arith, same-differences (a .0)))
       allowed-words (inr a) = inr (a .0, a .1, λ k h z. same-word k h z (a .2 k h z))
 
     pub group-sound : (u : List ℕ) → judgedGroup ws m ≡ corrected u
         → (length u ≡ 9) × IsGroup 8 feedback (λ k. getD u k 0)
-        × Allowed 9 (pointed ws m) (λ k. getD ws k 0) (λ k. getD (map wordOf u) k 0)
+        × Allowed 9 (relied ws m) (λ k. getD ws k 0) (λ k. getD (wordsOf u) k 0)
     unfolding judgedGroup
     group-sound u e =
-        let s = nine-sound (λ k. valueOf (getD ws k 0)) (λ k h. value-lt (getD ws k 0)) (pointed ws m) u e in (
+        let s = nine-sound (λ k. valueOn k (getD ws k 0)) (λ k h. value-on-lt k (getD ws k 0)) (relied ws m) u e in (
           s .0,
           s .1,
           allowed-words (λ k. getD u k 0) _ (λ k h. s .1 .bounds k (omega arith))
-              (λ k h. getD-map wordOf u k 0 0 (omega (arith, s .0))) (s .2),
+              (getD-wordsOf u) (s .2),
         )
 
     pub group-complete : (info : List ℕ) → Below 8 info
-        → Allowed 9 (pointed ws m) (λ k. getD ws k 0) (λ k. getD (groupWords info) k 0)
+        → Allowed 9 (relied ws m) (λ k. getD ws k 0) (λ k. getD (groupWords info) k 0)
         → judgedGroup ws m ≡ corrected (group 8 feedback info)
     unfolding judgedGroup group
     group-complete info small a =
-        nine-complete (λ k. valueOf (getD ws k 0)) (λ k h. value-lt (getD ws k 0)) (pointed ws m) (track 8 feedback info)
+        nine-complete (λ k. valueOn k (getD ws k 0)) (λ k h. value-on-lt k (getD ws k 0)) (relied ws m) (track 8 feedback info)
         (tracks-group info small)
         (allowed-values (track 8 feedback info) _ (λ k h. tracks-group info small .bounds k (omega arith)) (group-word info) a)
 
     -- a group that is corrected has seven bytes whose words are allowed
     pub corrected-fits : isCorrected (judgedGroup ws m) ≡ true
         → Below 8 (rightBytes (judgedGroup ws m))
-        × Allowed 9 (pointed ws m) (λ k. getD ws k 0) (λ k. getD (groupWords (rightBytes (judgedGroup ws m))) k 0)
+        × Allowed 9 (relied ws m) (λ k. getD ws k 0) (λ k. getD (groupWords (rightBytes (judgedGroup ws m))) k 0)
     unfolding isCorrected rightBytes rightValues groupWords
     corrected-fits = by (judgedGroup ws m) refl
       where
         by : (j : Judgement) → judgedGroup ws m ≡ j → isCorrected j ≡ true
-            → Below 8 (rightBytes j) × Allowed 9 (pointed ws m) (λ k. getD ws k 0) (λ k. getD (groupWords (rightBytes j)) k 0)
+            → Below 8 (rightBytes j) × Allowed 9 (relied ws m) (λ k. getD ws k 0) (λ k. getD (groupWords (rightBytes j)) k 0)
         by (corrected u) e t =
             let s = group-sound u e in (
               information-below 8 feedback (nine-tracks .positive) (nine-tracks .fits) (λ k. getD u k 0) (s .1),
-              subst (λ (v : List ℕ). Allowed 9 (pointed ws m) (λ k. getD ws k 0) (λ k. getD (map wordOf v) k 0))
+              subst (λ (v : List ℕ). Allowed 9 (relied ws m) (λ k. getD ws k 0) (λ k. getD (wordsOf v) k 0))
                   (sym (group-of-list 8 feedback (nine-tracks .positive) (nine-tracks .fits) u (s .0) (s .1))) (s .2),
             )
         by manyPointed e t = absurd (false≢true t)

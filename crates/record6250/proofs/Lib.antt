@@ -1,9 +1,12 @@
+pub mod Track
+pub mod Tape
+pub mod Picture
 pub mod Record
 pub mod Padding
 pub mod Bounded
+pub mod Relied
 pub mod FittingGroup
 pub mod Reading
-pub mod Picture
 pub mod Cases
 pub mod Answer
 pub mod Fitting

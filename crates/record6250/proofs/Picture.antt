@@ -1,55 +1,47 @@
--- The forward picture: of a forward reading it is the reading, and a reading turned twice is as it was.
+-- The forward picture: what stands in blocks is read block by block, and a reading that is turned has the same groups and maps.
 -- Assumes nothing.
-use mathlib.Core.Path.{_≡_, refl, sym, ap, _∙_}
-use mathlib.Core.Bool.{Bool, true, false}
-use mathlib.Core.List.{List}
-use Prim.Native.Nat.{ℕ, _+_, _*_, _<_}
+use mathlib.Core.Path.{_≡_, refl, sym, ap, ap₂, _∙_}
+use mathlib.Core.Bool.{Bool, true, false, not}
+use mathlib.Core.List.{List, _++_, append-nil}
+use Prim.Native.Nat.{ℕ, _+_, _*_, _/_, _<_}
 use native.Mathlib.Omega.{arith}
-use lib.ListN.{length, getD, take, drop, length-drop}
+use lib.ListN.{length, getD, take, drop, length-append, length-drop, drop-of-length-le}
 use lib.Seq.{ext-getD, length-take-le, getD-take, getD-drop}
-use Rattle.indexed.specs.List.{tabulate}
+use Rattle.indexed.specs.List.{blocks}
 use Rattle.slices.specs.Turned.{turnedPlace}
+use Rattle.slices.proofs.Turned.{turned-lt}
 use Rattle.indexed.proofs.Blocks.{length-blocks, blocks-same, getD-blocks, join-cuts}
-use Rattle.indexed.proofs.Tabulate.{length-tabulate, getD-tabulate, tabulate-same}
-use Rattle.group_code.specs.Word.{forwardWord}
-use Rattle.group_code.proofs.Words.{reversed-twice}
-use Rattle.record6250.specs.Picture.{groupRead, mapRead, pictureWords, pictureMaps}
-use Rattle.record6250.proofs.Reading.{length-read}
-use Rattle.slices.proofs.Turned.{turned-lt, turned-twice}
+use Rattle.indexed.proofs.Tabulate.{length-tabulate, getD-tabulate}
+use Rattle.record6250.specs.Picture.{groupLent, groupRead, mapRead, pictureMaps, turnedNumbers}
+use Rattle.record6250.specs.Tape.{numbersAt, wordsFrom, turnedGroup}
+use Rattle.record6250.proofs.Tape.{length-numbersAt, getD-numbersAt, length-wordsFrom, length-turnedGroup, words-turned}
 
-pub length-picture : (backward : Bool) (n : ℕ) (words : List ℕ) → length (pictureWords backward n words) ≡ 9 * n
-unfolding pictureWords
-length-picture backward n words = length-blocks 9 n _ (λ g h. length-read backward n words g)
+pub length-lent : (backward : Bool) (n : ℕ) (numbers : List ℕ) (g : ℕ) → length (groupLent backward n numbers g) ≡ 9
+unfolding groupLent
+length-lent backward n numbers g = length-numbersAt numbers _
 
-forward-twice : (backward : Bool) (word : ℕ) → forwardWord backward (forwardWord backward word) ≡ word
-unfolding forwardWord
-forward-twice true word = reversed-twice word
-forward-twice false word = refl
+pub length-read : (backward : Bool) (n : ℕ) (numbers : List ℕ) (g : ℕ) → length (groupRead backward n numbers g) ≡ 9
+unfolding groupRead
+length-read backward n numbers g = length-wordsFrom backward _
 
-module _ (words : List ℕ) (n : ℕ) (long : length words ≡ 9 * n) where
-  nine-cut : (g : ℕ) → g < n → tabulate 9 (λ k. getD words (9 * g + k) 0) ≡ take 9 (drop (9 * g) words)
-  nine-cut g h =
-      ext-getD 0 _ _ (length-tabulate 9 _ ∙ sym (length-take-le 9 (drop (9 * g) words) (omega (arith, length-drop (9 * g) words))))
-      (λ k q. let b : k < 9 = omega (arith, length-tabulate 9 (λ k. getD words (9 * g + k) 0)) in
-      getD-tabulate 9 _ k 0 b ∙ sym (getD-take 9 (drop (9 * g) words) k 0 b ∙ getD-drop (9 * g) words k 0))
+-- the numbers of a group among groups that stand end to end
+pub lent-of-blocks : (backward : Bool) (n m : ℕ) (f : ℕ → List ℕ) → ((g : ℕ) → g < m → length (f g) ≡ 9) → (g : ℕ) → turnedPlace backward n g < m
+    → groupLent backward n (blocks m f) g ≡ f (turnedPlace backward n g)
+unfolding groupLent
+lent-of-blocks backward n m f nine g h =
+    ext-getD 0 _ _ (length-numbersAt (blocks m f) _ ∙ sym (nine (turnedPlace backward n g) h))
+    (λ k q. let b : k < 9 = omega (arith, length-numbersAt (blocks m f) (9 * turnedPlace backward n g)) in
+    getD-numbersAt (blocks m f) _ k b ∙ getD-blocks 9 m f nine (turnedPlace backward n g) k 0 h b)
 
-  pub picture-forward : pictureWords false n words ≡ words
-  unfolding pictureWords groupRead turnedPlace forwardWord
-  picture-forward = blocks-same n _ _ nine-cut ∙ join-cuts 9 n words long
-
-  pub picture-twice : (backward : Bool) → pictureWords backward n (pictureWords backward n words) ≡ words
-  unfolding pictureWords groupRead
-  picture-twice backward =
-      blocks-same n _ _
-      (λ g h. tabulate-same 9 _ _
-      (λ k b. ap (forwardWord backward)
-      (getD-blocks 9 n (groupRead backward n words) (λ g h. length-read backward n words g) (turnedPlace backward n g) k 0
-      (turned-lt backward n g h) b
-      ∙ getD-tabulate 9 _ k 0 b)
-      ∙ forward-twice backward (getD words (9 * turnedPlace backward n (turnedPlace backward n g) + k) 0)
-      ∙ ap (λ (j : ℕ). getD words (9 * j + k) 0) (turned-twice backward n g h))
-      ∙ nine-cut g h)
-      ∙ join-cuts 9 n words long
+-- a list is its groups, end to end
+pub lent-joined : (numbers : List ℕ) (n : ℕ) → length numbers ≡ 9 * n → blocks n (groupLent false n numbers) ≡ numbers
+unfolding groupLent turnedPlace
+lent-joined numbers n long =
+    blocks-same n _ _
+    (λ g h. ext-getD 0 _ _ (length-numbersAt numbers (9 * g) ∙ sym (length-take-le 9 (drop (9 * g) numbers) (omega (arith, length-drop (9 * g) numbers))))
+    (λ k q. let b : k < 9 = omega (arith, length-numbersAt numbers (9 * g)) in
+    getD-numbersAt numbers (9 * g) k b ∙ sym (getD-take 9 (drop (9 * g) numbers) k 0 b ∙ getD-drop (9 * g) numbers k 0)))
+    ∙ join-cuts 9 n numbers long
 
 -- ---- the pointer maps
 
@@ -57,12 +49,51 @@ pub length-maps : (backward : Bool) (maps : List ℕ) → length (pictureMaps ba
 unfolding pictureMaps
 length-maps backward maps = length-tabulate (length maps) _
 
-pub maps-twice : (backward : Bool) (maps : List ℕ) → pictureMaps backward (pictureMaps backward maps) ≡ maps
+-- a place that is turned the other way, turned last first, is the place itself
+turned-back : (backward : Bool) (n k : ℕ) → k < n → turnedPlace true n (turnedPlace (not backward) n k) ≡ turnedPlace backward n k
+unfolding turnedPlace
+turned-back true n k h = refl
+turned-back false n k h = omega arith
+
+pub map-turned : (backward : Bool) (maps : List ℕ) (g : ℕ) → g < length maps
+    → mapRead (not backward) (length (pictureMaps true maps)) (pictureMaps true maps) g ≡ mapRead backward (length maps) maps g
 unfolding pictureMaps mapRead
-maps-twice backward maps =
-    ext-getD 0 _ _ (length-maps backward (pictureMaps backward maps) ∙ length-maps backward maps)
-    (λ g h. let b : g < length maps = omega (arith, length-maps backward (pictureMaps backward maps), length-maps backward maps) in
-    getD-tabulate (length (pictureMaps backward maps)) _ g 0 (omega (arith, length-maps backward maps))
-    ∙ ap (λ (n : ℕ). getD (pictureMaps backward maps) (turnedPlace backward n g) 0) (length-maps backward maps)
-    ∙ getD-tabulate (length maps) _ (turnedPlace backward (length maps) g) 0 (turned-lt backward (length maps) g b)
-    ∙ ap (λ (k : ℕ). getD maps k 0) (turned-twice backward (length maps) g b))
+map-turned backward maps g h =
+    ap (λ (n : ℕ). getD (pictureMaps true maps) (turnedPlace (not backward) n g) 0) (length-maps true maps)
+    ∙ getD-tabulate (length maps) _ (turnedPlace (not backward) (length maps) g) 0 (turned-lt (not backward) (length maps) g h)
+    ∙ ap (λ (k : ℕ). getD maps k 0) (turned-back backward (length maps) g h)
+
+-- ---- the numbers
+
+pub length-turned : (numbers : List ℕ) → length (turnedNumbers numbers) ≡ length numbers
+unfolding turnedNumbers
+length-turned numbers =
+    let n = length numbers / 9 in
+    length-append (blocks n (λ g. turnedGroup (groupLent true n numbers g))) (drop (9 * n) numbers)
+    ∙ omega (
+      arith,
+      length-blocks 9 n (λ g. turnedGroup (groupLent true n numbers g)) (λ g h. length-turnedGroup (groupLent true n numbers g)),
+      length-drop (9 * n) numbers,
+    )
+
+module _ (numbers : List ℕ) (n : ℕ) (long : length numbers ≡ 9 * n) where
+  turned-whole : turnedNumbers numbers ≡ blocks n (λ g. turnedGroup (groupLent true n numbers g))
+  unfolding turnedNumbers
+  turned-whole =
+      let groups : length numbers / 9 ≡ n = omega arith in
+      ap₂ _++_ (ap (λ (m : ℕ). blocks m (λ g. turnedGroup (groupLent true m numbers g))) groups)
+      (drop-of-length-le numbers {i = 9 * (length numbers / 9)} (omega arith))
+      ∙ append-nil (blocks n (λ g. turnedGroup (groupLent true n numbers g)))
+
+  -- a group of what is turned is the group of what was, turned
+  pub lent-turned : (backward : Bool) (g : ℕ) → g < n → groupLent (not backward) n (turnedNumbers numbers) g ≡ turnedGroup (groupLent backward n numbers g)
+  unfolding groupLent
+  lent-turned backward g h =
+      ap (λ (l : List ℕ). groupLent (not backward) n l g) turned-whole
+      ∙ lent-of-blocks (not backward) n n (λ g. turnedGroup (groupLent true n numbers g)) (λ g h. length-turnedGroup (groupLent true n numbers g)) g
+      (turned-lt (not backward) n g h)
+      ∙ ap (λ (k : ℕ). turnedGroup (numbersAt numbers (9 * k))) (turned-back backward n g h)
+
+  pub read-turned : (backward : Bool) (g : ℕ) → g < n → groupRead (not backward) n (turnedNumbers numbers) g ≡ groupRead backward n numbers g
+  unfolding groupRead
+  read-turned backward g h = ap (wordsFrom (not backward)) (lent-turned backward g h) ∙ words-turned (groupLent backward n numbers g) backward

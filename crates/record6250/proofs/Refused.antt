@@ -13,7 +13,7 @@ use Rattle.answer.specs.Answer.{refused, numberOf}
 use Rattle.rectangular.specs.Correction.{pointedTracks, Judgement, corrected, manyPointed, noGroup}
 use Rattle.rectangular.proofs.Correction.{nine-many, nine-none}
 use Rattle.record6250.specs.Fits.{Passes, FitsGroup, Fits}
-use Rattle.record6250.specs.Group.{pointed, judgedGroup, isCorrected, reasonOf, rightBytes}
+use Rattle.record6250.specs.Group.{pointed, relied, judgedGroup, isCorrected, reasonOf, rightBytes}
 use Rattle.record6250.specs.Read.{readGroup, readMap, judgement, firstUnfit, judgedAnswer}
 use Rattle.record6250.specs.Record.{groupWords}
 use Rattle.record6250.proofs.Cases.{ThreeCases, cases}
@@ -21,6 +21,7 @@ use Rattle.indexed.proofs.Below.{first-below-passes}
 use Rattle.record6250.proofs.Fitting.{refused-none, group-fits}
 use Rattle.record6250.proofs.FittingGroup.{group-complete}
 use Rattle.record6250.proofs.Reading.{words-below}
+use Rattle.record6250.proofs.Relied.{relied-many, pointed-few}
 use Rattle.answer.proofs.Apart.{not-both, same-number, same-place}
 
 -- a judgement, by the number of its reason
@@ -105,7 +106,8 @@ module _ (backward : Bool) (words maps : List ℕ) where
     many-refused g e =
         let c = unfit-at 4 g e (λ q. omega arith) in (
           c .0,
-          nine-many _ (pointed (readGroup backward words maps g) (readMap backward words maps g)) (is-many _ (c .2)),
+          relied-many (readGroup backward words maps g) (readMap backward words maps g)
+              (nine-many _ (relied (readGroup backward words maps g) (readMap backward words maps g)) (is-many _ (c .2))),
           λ h b. some-fit h (omega arith) (omega (arith, c .1)),
         )
 
@@ -116,7 +118,8 @@ module _ (backward : Bool) (words maps : List ℕ) where
         let c = unfit-at 5 g e (λ q. omega arith) in
         let none : judgement backward words maps g ≡ noGroup = is-none _ (c .3) (c .2) in (
           c .0,
-          omega (arith, nine-none _ (pointed (readGroup backward words maps g) (readMap backward words maps g)) none),
+          pointed-few (readGroup backward words maps g) (readMap backward words maps g)
+              (nine-none _ (relied (readGroup backward words maps g) (readMap backward words maps g)) none),
           none-fit g (c .0) none,
           λ h b. some-fit h (omega arith) (omega (arith, c .1)),
         )

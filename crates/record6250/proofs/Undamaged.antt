@@ -6,37 +6,40 @@ use mathlib.Core.Bool.{Bool, false, _&&_, _||_}
 use mathlib.Core.List.{List, [], _∷_}
 use mathlib.Core.Logic.{inl}
 use Prim.Native.Nat.{ℕ, _-_, _*_, _<_, _≤_}
-use native.Mathlib.Nat.{le-of-eq}
 use native.Mathlib.Omega.{arith}
-use borrow.Author.Tests.{lt-ltb, le-ltb, le-leb, eq-eqb}
+use borrow.Author.Tests.{lt-ltb, le-leb, eq-eqb}
 use lib.Dec.{ltb}
 use lib.ListN.{length, getD, replicate, length-replicate, getD-replicate}
 use lib.Seq.{ext-getD}
 use Rattle.answer.specs.Answer.{delivered}
-use Rattle.indexed.specs.List.{tabulate, tabulateFrom, below, keep, firstBelow}
+use Rattle.indexed.specs.List.{tabulate, tabulateFrom, below, keep}
 use Rattle.slices.specs.Turned.{turnedPlace}
+use Rattle.indexed.proofs.Blocks.{blocks-same}
 use Rattle.indexed.proofs.Differ.{differences-none, equal-of-no-differences}
-use Rattle.indexed.proofs.Tabulate.{tabulate-same}
-use Rattle.register.specs.Bit.{bit, ofBits}
+use Rattle.indexed.proofs.Total.{total-none, none-of-total}
+use Rattle.register.specs.Bit.{bit}
 use Rattle.group_code.specs.Word.{illegality}
-use Rattle.group_code.proofs.Words.{word-lt, word-legal}
 use Rattle.rectangular.specs.Constants.{feedback}
 use Rattle.rectangular.specs.Correction.{pointedTracks, Allowed}
 use Rattle.rectangular.specs.Group.{track}
 use Rattle.rectangular.proofs.Equations.{Below}
 use Rattle.record6250.specs.Fits.{IsData, Passes, FitsGroup, Fits, wordsChanged}
-use Rattle.record6250.specs.Group.{illegalMap, pointed, stray}
-use Rattle.record6250.specs.Picture.{mapRead, pictureWords}
-use Rattle.record6250.specs.Read.{readGroup, readMap, lengthsSuit, firstStray, readData, readAnswer}
+use Rattle.record6250.specs.Group.{relied}
+use Rattle.record6250.specs.Picture.{groupLent, groupRead, mapRead}
+use Rattle.record6250.specs.Read.{readNumbers, readGroup, readMap, lengthsSuit, strayAt, firstStray, readData, readAnswer}
 use Rattle.record6250.specs.Record.{body, groupsFor, groupBytes, groupWords, writtenRecord}
+use Rattle.record6250.specs.Tape.{strayNumbers, numbersFrom}
 use Rattle.indexed.proofs.Below.{first-below-none}
-use Rattle.record6250.proofs.Answer.{all-passed}
+use Rattle.record6250.proofs.Answer.{answer-passed}
 use Rattle.record6250.proofs.Fitting.{fits-delivered}
 use Rattle.record6250.proofs.FittingGroup.{group-word, tracks-group}
 use Rattle.record6250.proofs.Padding.{body-below}
-use Rattle.record6250.proofs.Picture.{length-picture, picture-forward}
-use Rattle.record6250.proofs.Reading.{groupBytes-bounded, written-group}
-use Rattle.record6250.proofs.Record.{length-record}
+use Rattle.record6250.proofs.Picture.{length-lent, length-read, lent-joined}
+use Rattle.record6250.proofs.Reading.{words-long, none-stray-lent, groupBytes-bounded}
+use Rattle.record6250.proofs.Record.{length-record, written-lent, written-group}
+use Rattle.record6250.proofs.Relied.{none-relied}
+use Rattle.record6250.proofs.Tape.{numbers-back, written-not-stray}
+use Rattle.record6250.proofs.Track.{word-on-lt, word-on-legal}
 
 -- ---- the words of a group as they are written: legal, of ten bits
 
@@ -44,24 +47,13 @@ module _ (info : List ℕ) (small : Below 8 info) where
   track-lt : (k : ℕ) → k < 9 → track 8 feedback info k < 256
   track-lt k h = tracks-group info small .bounds k (omega arith)
 
-  written-unpointed : pointed (groupWords info) 0 ≡ 0
-  unfolding pointed illegalMap ofBits tabulate tabulateFrom
+  written-unpointed : relied (groupWords info) 0 ≡ 0
   written-unpointed =
-      ap ofBits
-      (tabulate-same 9 (λ k. illegality (getD (groupWords info) k 0)) (λ k. 0)
-      (λ k h. ap illegality (group-word info k h) ∙ word-legal (track 8 feedback info k) (track-lt k h)))
+      none-relied (groupWords info)
+      (λ k h. ap illegality (group-word info k h) ∙ word-on-legal k (track 8 feedback info k) (track-lt k h))
 
-  written-not-stray : stray (groupWords info) 0 ≡ false
-  unfolding stray
-  written-not-stray =
-      ap (λ (b : Bool). b || ltb 511 0)
-      (le-ltb (firstBelow 9 (λ k. ltb 1023 (getD (groupWords info) k 0))) 9
-      (omega (
-        arith,
-        first-below-none 9 (λ k. ltb 1023 (getD (groupWords info) k 0))
-            (λ k h. le-ltb 1023 (getD (groupWords info) k 0)
-            (omega (arith, group-word info k h, word-lt (track 8 feedback info k) (track-lt k h)))),
-      )))
+  none-written : strayNumbers (numbersFrom (groupWords info)) ≡ false
+  none-written = written-not-stray (groupWords info) (λ k h. rw (group-word info k h) (word-on-lt k (track 8 feedback info k) (track-lt k h)))
 
 -- with no track pointed, a group fits itself
 itself-allowed : (pointers : ℕ) (v : ℕ → ℕ) → pointers ≡ 0 → Allowed 9 pointers v v
@@ -99,8 +91,8 @@ module _ (bytes : List ℕ) (is-data : IsData bytes) where
   unfolding readMap mapRead turnedPlace
   unpointed g h = getD-replicate (groupsFor (length bytes)) g 0 0 (omega (arith, many))
 
-  group-unpointed : (g : ℕ) → g < length maps → pointed (readGroup false words maps g) (readMap false words maps g) ≡ 0
-  group-unpointed g h = ap₂ pointed (group-same g h) (unpointed g h) ∙ written-unpointed (groupBytes g (body bytes)) (info-below g)
+  group-unpointed : (g : ℕ) → g < length maps → relied (readGroup false words maps g) (readMap false words maps g) ≡ 0
+  group-unpointed g h = ap₂ relied (group-same g h) (unpointed g h) ∙ written-unpointed (groupBytes g (body bytes)) (info-below g)
 
   itself-fits : Fits false words maps bytes
   unfolding FitsGroup
@@ -112,12 +104,11 @@ module _ (bytes : List ℕ) (is-data : IsData bytes) where
   }
 
   none-changed : wordsChanged false words maps bytes ≡ 0
-  unfolding wordsChanged
-  none-changed =
-      differences-none _ _ (9 * length maps) (λ k h. ap (λ (l : List ℕ). getD l k 0) (picture-forward words (length maps) long))
+  unfolding wordsChanged readGroup
+  none-changed = total-none (length maps) _ (λ g h. differences-none _ _ 9 (λ k b. refl))
 
   passes : Passes false words maps
-  unfolding lengthsSuit firstStray groupsFor
+  unfolding lengthsSuit firstStray strayAt readNumbers groupsFor
   passes = record {
     lengths =
         ap₂ _&&_
@@ -125,7 +116,8 @@ module _ (bytes : List ℕ) (is-data : IsData bytes) where
         (eq-eqb (length words) (9 * length maps) long);
     no-stray =
         first-below-none (length maps) _
-        (λ g h. ap₂ stray (group-same g h) (unpointed g h) ∙ written-not-stray (groupBytes g (body bytes)) (info-below g));
+        (λ g h. ap₂ (λ (l : List ℕ) (m : ℕ). strayNumbers l || ltb 511 m) (written-lent bytes (length maps) g (omega (arith, many))) (unpointed g h)
+        ∙ ap (λ (b : Bool). b || ltb 511 0) (none-written (groupBytes g (body bytes)) (info-below g)));
   }
 
   pub undamaged-data : readData false words maps ≡ bytes
@@ -133,7 +125,7 @@ module _ (bytes : List ℕ) (is-data : IsData bytes) where
 
   pub undamaged-answer : (space : ℕ) → 7 * length maps - 1 ≤ space → readAnswer false words maps space ≡ delivered (length bytes ∷ 0 ∷ [])
   undamaged-answer space enough =
-      all-passed false words maps space (passes .lengths) enough (le-of-eq (sym (passes .no-stray)))
+      answer-passed false words maps passes space enough
       ∙ fits-delivered false words maps passes bytes itself-fits .0
       ∙ ap (λ (n : ℕ). delivered (length bytes ∷ n ∷ [])) none-changed
 
@@ -148,10 +140,24 @@ one-data bytes others d e same =
 
 -- ---- and back
 
-pub unchanged : (backward : Bool) (words maps bytes : List ℕ) → Fits backward words maps bytes → wordsChanged backward words maps bytes ≡ 0
-    → pictureWords backward (length maps) words ≡ writtenRecord bytes
-unfolding wordsChanged
-unchanged backward words maps bytes fits e =
-    let long : length (pictureWords backward (length maps) words) ≡ 9 * length maps = length-picture backward (length maps) words in
-    ext-getD 0 _ _ (long ∙ ap (λ (n : ℕ). 9 * n) (sym (fits .as-many)) ∙ sym (length-record bytes))
-    (λ k h. equal-of-no-differences _ _ (9 * length maps) e k (omega arith))
+-- a forward reading in which no word differs is the record, number for number
+module _ (words maps bytes : List ℕ) (passes : Passes false words maps) (fits : Fits false words maps bytes) (none : wordsChanged false words maps bytes ≡ 0) where
+  same-words : (g : ℕ) → g < length maps → readGroup false words maps g ≡ groupRead false (length maps) (writtenRecord bytes) g
+  unfolding wordsChanged readGroup
+  same-words g h =
+      ext-getD 0 _ _ (length-read false (length maps) words g ∙ sym (length-read false (length maps) (writtenRecord bytes) g))
+      (λ k b. equal-of-no-differences _ _ 9 (none-of-total (length maps) _ none g h) k (omega (arith, length-read false (length maps) words g)))
+
+  same-numbers : (g : ℕ) → g < length maps → groupLent false (length maps) words g ≡ groupLent false (length maps) (writtenRecord bytes) g
+  unfolding readGroup readNumbers groupRead
+  same-numbers g h =
+      let within : g < groupsFor (length bytes) = omega (arith, fits .as-many) in
+      sym (numbers-back (groupLent false (length maps) words g) (length-lent false (length maps) words g) (none-stray-lent false words maps passes g h))
+      ∙ ap numbersFrom (same-words g h ∙ written-group bytes (length maps) g within)
+      ∙ sym (written-lent bytes (length maps) g within)
+
+  pub unchanged : words ≡ writtenRecord bytes
+  unchanged =
+      sym (lent-joined words (length maps) (words-long false words maps passes))
+      ∙ blocks-same (length maps) _ _ same-numbers
+      ∙ lent-joined (writtenRecord bytes) (length maps) (length-record bytes ∙ ap (λ (n : ℕ). 9 * n) (fits .as-many))

@@ -4,13 +4,14 @@
 use mathlib.Core.Bool.{Bool, true, false}
 use mathlib.Core.List.{List}
 use mathlib.Core.Path.{_≡_}
-use Prim.Native.Nat.{ℕ, _*_, _<_, _≤_}
+use Prim.Native.Nat.{ℕ, _<_, _≤_}
 use lib.ListN.{length, getD}
 use Rattle.indexed.specs.Differ.{differences}
+use Rattle.indexed.specs.List.{total}
 use Rattle.rectangular.specs.Constants.{tracks, mostData}
 use Rattle.rectangular.specs.Correction.{Allowed}
-use Rattle.record6250.specs.Group.{pointed}
-use Rattle.record6250.specs.Picture.{groupRead, pictureWords}
+use Rattle.record6250.specs.Group.{relied}
+use Rattle.record6250.specs.Picture.{groupRead}
 use Rattle.record6250.specs.Read.{readGroup, readMap, lengthsSuit, firstStray}
 use Rattle.record6250.specs.Record.{groupsFor, writtenRecord}
 
@@ -29,7 +30,7 @@ module _ (backward : Bool) (words maps : List ℕ) where
   -- track at most", where a track differs if its word does
   unfoldable pub FitsGroup : ℕ → List ℕ → Type 0
   FitsGroup g right =
-      Allowed tracks (pointed (readGroup backward words maps g) (readMap backward words maps g)) (λ k. getD (readGroup backward words maps g) k 0)
+      Allowed tracks (relied (readGroup backward words maps g) (readMap backward words maps g)) (λ k. getD (readGroup backward words maps g) k 0)
       (λ k. getD right k 0)
 
   -- the written record of these data fits: "the same number of groups", each of which fits
@@ -38,7 +39,8 @@ module _ (backward : Bool) (words maps : List ℕ) where
     pub as-many : groupsFor (length bytes) ≡ length maps
     pub each : (g : ℕ) → g < length maps → FitsGroup g (groupRead false (length maps) (writtenRecord bytes) g)
 
-  -- in how many words the reading's forward picture differs from the written record
+  -- in how many words the reading differs from the written record, counted group by group
   unfoldable pub wordsChanged : List ℕ → ℕ
   wordsChanged bytes =
-      differences (tracks * length maps) (λ k. getD (pictureWords backward (length maps) words) k 0) (λ k. getD (writtenRecord bytes) k 0)
+      total (length maps) (λ g. differences tracks (λ k. getD (readGroup backward words maps g) k 0)
+      (λ k. getD (groupRead false (length maps) (writtenRecord bytes) g) k 0))

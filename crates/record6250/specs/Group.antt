@@ -1,24 +1,19 @@
 -- How a group of nine words is judged, with the drive's pointer map (document 01, "The 6250 group"; the notice, third term).
 -- Assumes nothing.
 use Prim.Native.Nat.{ℕ}
-use mathlib.Core.Bool.{Bool, true, false, _||_}
-use mathlib.Core.List.{List, [], map}
+use mathlib.Core.Bool.{Bool, true, false}
+use mathlib.Core.List.{List, []}
 use lib.Bits.{bitOr}
-use lib.Dec.{ltb}
 use lib.ListN.{getD}
-use Rattle.indexed.specs.List.{tabulate, firstBelow}
+use Rattle.indexed.specs.List.{tabulate}
 use Rattle.register.specs.Bit.{ofBits}
 use Rattle.answer.specs.declared.Reason.{Reason}
 use Rattle.answer.specs.declared.Reason.the-variants.{ManyPointed, NoGroup}
-use Rattle.group_code.specs.Code.{wordOf}
-use Rattle.group_code.specs.Word.{valueOf, illegality}
-use Rattle.rectangular.specs.Constants.{feedback, exponent, tracks, numbersPerGroup, mostWord, mostMap}
+use Rattle.group_code.specs.Word.{illegality}
+use Rattle.rectangular.specs.Constants.{feedback, exponent, tracks}
 use Rattle.rectangular.specs.Correction.{pointedTracks, Judgement, corrected, manyPointed, noGroup, judged}
 use Rattle.rectangular.specs.Group.{informationOf}
-
--- a bit beyond its width: in a word of ten bits, or in a map of nine
-unfoldable pub stray : List ℕ → ℕ → Bool
-stray words pointers = ltb (firstBelow numbersPerGroup (λ k. ltb mostWord (getD words k 0))) numbersPerGroup || ltb mostMap pointers
+use Rattle.record6250.specs.Track.{valueOn, wordsOf}
 
 -- the tracks whose words are illegal, as a map
 unfoldable pub illegalMap : List ℕ → ℕ
@@ -28,10 +23,17 @@ illegalMap words = ofBits (tabulate tracks (λ k. illegality (getD words k 0)))
 unfoldable pub pointed : List ℕ → ℕ → ℕ
 pointed words pointers = bitOr pointers (illegalMap words)
 
+-- the tracks that fitting relies on, from the drive's map and the map of illegal words: those that are pointed
+unfoldable pub reliedOn : ℕ → ℕ → ℕ
+reliedOn pointers illegal = bitOr pointers illegal
+
+unfoldable pub relied : List ℕ → ℕ → ℕ
+relied words pointers = reliedOn pointers (illegalMap words)
+
 -- the judgement: the values of the group that fits, or why none does
 unfoldable pub judgedGroup : List ℕ → ℕ → Judgement
 judgedGroup words pointers =
-    judged 8 feedback exponent (λ k. valueOf (getD words k 0)) (pointedTracks tracks (pointed words pointers))
+    judged 8 feedback exponent (λ k. valueOn k (getD words k 0)) (pointedTracks tracks (relied words pointers))
 
 unfoldable pub isCorrected : Judgement → Bool
 isCorrected (corrected values) = true
@@ -55,4 +57,4 @@ unfoldable pub rightBytes : Judgement → List ℕ
 rightBytes j = informationOf 8 (λ k. getD (rightValues j) k 0)
 
 unfoldable pub rightWords : Judgement → List ℕ
-rightWords j = map wordOf (rightValues j)
+rightWords j = wordsOf (rightValues j)

@@ -1,3 +1,5 @@
+pub mod Track
+pub mod Tape
 pub mod Record
 pub mod Written
 pub mod Picture

@@ -1,12 +1,13 @@
 -- The written 6250 record (document 01, "The 6250 record"; "written record" is that paper's term).
 -- Assumes nothing.
 use Prim.Native.Nat.{ℕ, _+_, _-_, _*_, _/_, _%_}
-use mathlib.Core.List.{List, [], _∷_, _++_, map}
+use mathlib.Core.List.{List, [], _∷_, _++_}
 use lib.ListN.{length, take, drop, replicate}
 use Rattle.indexed.specs.List.{blocks}
-use Rattle.group_code.specs.Code.{wordOf}
 use Rattle.rectangular.specs.Constants.{feedback, bytesPerGroup, mostPadding}
 use Rattle.rectangular.specs.Group.{group}
+use Rattle.record6250.specs.Tape.{numbersFrom}
+use Rattle.record6250.specs.Track.{wordsOf}
 
 -- p, from 0 to 6: how many zero bytes stand behind so many bytes of data
 unfoldable pub padding : ℕ → ℕ
@@ -26,12 +27,12 @@ groupBytes g bytes = take bytesPerGroup (drop (bytesPerGroup * g) bytes)
 
 -- the nine words of a group, tracks 0 to 8
 unfoldable pub groupWords : List ℕ → List ℕ
-groupWords info = map wordOf (group 8 feedback info)
+groupWords info = wordsOf (group 8 feedback info)
 
--- the words of the record's first groups, group after group
+-- the numbers of the record's first groups, group after group
 unfoldable pub firstGroups : ℕ → List ℕ → List ℕ
-firstGroups n bytes = blocks n (λ g. groupWords (groupBytes g (body bytes)))
+firstGroups n bytes = blocks n (λ g. numbersFrom (groupWords (groupBytes g (body bytes))))
 
--- the words of the written record
+-- the numbers of the written record
 unfoldable pub writtenRecord : List ℕ → List ℕ
 writtenRecord bytes = firstGroups (groupsFor (length bytes)) bytes

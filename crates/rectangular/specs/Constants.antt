@@ -23,9 +23,12 @@ numbersPerGroup = 9
 abbrev pub bytesPerGroup : ℕ
 bytesPerGroup = 7
 
--- a word has ten bits, and a pointer map nine
+-- a word has ten bits, and so has each number that is lent for a group; a pointer map has nine
 abbrev pub mostWord : ℕ
 mostWord = 1023
+
+abbrev pub mostNumber : ℕ
+mostNumber = 1023
 
 abbrev pub mostMap : ℕ
 mostMap = 511

@@ -23,6 +23,8 @@ impl Code6250 {
     pub const BYTES: usize = 7;
     // The largest word, of ten bits.
     pub const MOST_WORD: u16 = 1023;
+    // The largest number that is lent for a group.
+    pub const MOST_NUMBER: u16 = 1023;
     // The largest pointer map, of nine bits.
     pub const MOST_MAP: u16 = 511;
     // A record's data are at most so many bytes.

@@ -15,6 +15,7 @@ use Rattle.rectangular.proofs.Errors.{errors-apart}
 use Rattle.judge6250.specs.Told.{toldErrors, changedBy}
 use Rattle.judge6250.proofs.judge.judge.Statement.{statement}
 use Rattle.judge6250.proofs.judge.judge.Tie as tie
+
 parity-requires : tie.Need-parity-requires
 parity-requires c κs = search needs
 
