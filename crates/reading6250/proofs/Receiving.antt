@@ -20,14 +20,20 @@ use Rattle.register.proofs.Ones.{tabulated-lt}
 use Rattle.group_code.specs.Word.{valueOf, illegality, forwardWord, readOf, readings}
 use Rattle.group_code.proofs.Words.{value-lt, illegality-lt, getD-readings, read-value, read-mark}
 use Rattle.group6250.specs.Packed.{byteAt, valuesOf, placedAt}
+use Rattle.group6250.specs.declared.group.Group.{Group}
 use Rattle.record6250.specs.Group.{illegalMap}
-use Rattle.reading6250.specs.Received.{receivedValues}
-use Rattle.reading6250.specs.declared.received.Received.{Received}
+use Rattle.record6250.specs.Tape.{numbersAt, wordsFrom}
+use Rattle.record6250.specs.Track.{valueOn}
+use Rattle.record6250.proofs.Tape.{getD-numbersAt}
 use Rattle.reading6250.proofs.Packing.{packed, packed-lt, byte-packed, bits-more}
 
 -- the words from an index on, as they are in the forward picture
-abbrev pub wordsFrom : Bool → List ℕ → ℕ → ℕ → ℕ
-wordsFrom backward words at k = forwardWord backward (getD words (at + k) 0)
+abbrev pub wordAt : Bool → List ℕ → ℕ → ℕ → ℕ
+wordAt backward words at k = forwardWord backward (getD words (at + k) 0)
+
+pub words-at : (backward : Bool) (words : List ℕ) (at : ℕ) → tabulate 9 (wordAt backward words at) ≡ wordsFrom backward (numbersAt words at)
+unfolding wordsFrom
+words-at backward words at = tabulate-same 9 _ _ (λ k h. ap (forwardWord backward) (sym (getD-numbersAt words at k h)))
 
 -- a word of ten bits in the table of readings: its place, and the value and the mark that stand there
 module _ (backward : Bool) {table : List ℕ} (is-table : table ≡ readings backward) {word : ℕ} (h : word < 1024) where
@@ -119,14 +125,18 @@ module _ (word : ℕ → ℕ) where
       let e : illegality (word k) ≡ 0 = omega (arith, or-add-and seen read, and-le-l seen read) in
       rw (add-one, bits-more k mark, none (omega (arith, or-add-and seen read, and-le-r seen read)), e, zero-mul)
 
-  pub all-values : (r : Received) → r .tracks ≡ packed 8 9 low → r .parity ≡ valueOf (word 8) → receivedValues r ≡ tabulate 9 (λ k. valueOf (word k))
-  unfolding receivedValues valuesOf
-  all-values r tracks parity =
-      ap₂ (λ (l : List ℕ) (p : ℕ). l ++ (p ∷ []))
-      (tabulate-same 8 _ _ (λ j h. ap (byteAt j) (tracks ∙ nine-is-eight) ∙ byte-packed low 8 j (λ i b. low-lt i) h ∙ low-below j h)) parity
-      ∙ sym (tabulate-last 8 (λ k. valueOf (word k)))
+  module _ (words : List ℕ) (are : tabulate 9 word ≡ words) where
+    word-is : (k : ℕ) → k < 9 → word k ≡ getD words k 0
+    word-is k h = sym (getD-tabulate 9 word k 0 h) ∙ ap (λ (l : List ℕ). getD l k 0) are
 
-  pub all-marks : ofBits (tabulate 9 mark) ≡ illegalMap (tabulate 9 word)
-  unfolding illegalMap mark
-  all-marks =
-      ap ofBits (tabulate-same 9 _ _ (λ k h. ap illegality (sym (getD-tabulate 9 word k 0 h))))
+    pub all-values : (g : Group) → g .tracks ≡ packed 8 9 low → g .parity ≡ valueOf (word 8) → valuesOf g ≡ tabulate 9 (λ k. valueOn k (getD words k 0))
+    unfolding valuesOf valueOn
+    all-values g tracks parity =
+        ap₂ (λ (l : List ℕ) (p : ℕ). l ++ (p ∷ []))
+        (tabulate-same 8 _ _ (λ j h. ap (byteAt j) (tracks ∙ nine-is-eight) ∙ byte-packed low 8 j (λ i b. low-lt i) h ∙ low-below j h)) parity
+        ∙ sym (tabulate-last 8 (λ k. valueOf (word k)))
+        ∙ tabulate-same 9 _ _ (λ k h. ap valueOf (word-is k h))
+
+    pub all-marks : ofBits (tabulate 9 mark) ≡ illegalMap words
+    unfolding illegalMap mark
+    all-marks = ap ofBits (tabulate-same 9 _ _ (λ k h. ap illegality (word-is k h)))

@@ -41,7 +41,7 @@ use denote.Struct.Laws as LL
 use denote.Triple.Statement.{Contract, Triple}
 use Rattle.walks.proofs.Walk.{Callee, called-as, typed}
 use Rattle.group_code.specs.Word.{readings}
-use Rattle.judge6250.specs.Judged.{toldJudged, toldChanged}
+use Rattle.judge6250.specs.Told.{toldJudged, toldChanged}
 use Rattle.judge6250.specs.declared.judge.Judged.{Judged}
 use Rattle.judge6250.proofs.judge.Judged.{the-type as judged-type, the-row as judged-row}
 use Rattle.judge6250.proofs.judge.Judged.Laws.{the-laws as judged-laws, mir as judged-mir}

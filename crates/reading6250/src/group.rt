@@ -1,6 +1,5 @@
 // One group of a reading, received and judged.
 use crate::received::receive;
-use group6250::group::Group;
 use judge6250::judge::Correction;
 use judge6250::judge::Judged;
 use judge6250::judge::judge;
@@ -11,10 +10,17 @@ ghost use mathlib.Core.Path.{_≡_};
 ghost use Prim.Native.Nat.{_<_};
 ghost use lib.ListN.{length};
 ghost use Rattle.group_code.specs.Word.{readings};
-ghost use Rattle.judge6250.specs.Judged.{toldJudged, toldChanged};
+ghost use Rattle.judge6250.specs.Told.{toldJudged, toldChanged};
 ghost use Rattle.record6250.specs.Fits.{Passes};
-ghost use Rattle.record6250.specs.Group.{isCorrected};
+ghost use Rattle.record6250.specs.Group.{reliedOn, isCorrected};
 ghost use Rattle.record6250.specs.Read.{judgement, changedTracks};
+
+// The tracks that fitting relies on.
+fn relied(pointers: u16, illegal: u16) -> u16
+    ensures { λ r. ⌜ r ≡ reliedOn pointers illegal ⌝ }
+{
+    pointers | illegal
+}
 
 // Judges group g of a reading.
 pub(crate) fn judge_group(
@@ -30,16 +36,15 @@ pub(crate) fn judge_group(
 {
     let place = turned_place(backward, maps.len(), g);
     let received = receive(words, place * Code6250::NUMBERS, backward, table);
-    let group = Group {
-        tracks: received.tracks,
-        parity: received.parity,
-    };
-    match judge(group, maps[place] | received.illegal) {
-        Judged::Corrected(right) => Judged::Corrected(Correction {
-            tracks: right.tracks,
-            parity: right.parity,
-            changed: right.changed | received.illegal,
-        }),
+    let group = received.group;
+    match judge(group, relied(maps[place], received.illegal)) {
+        Judged::Corrected(right) => {
+            let fitting = right.group;
+            Judged::Corrected(Correction {
+                group: fitting,
+                changed: right.changed | received.illegal,
+            })
+        }
         Judged::ManyPointed => Judged::ManyPointed,
         Judged::NoGroup => Judged::NoGroup,
     }

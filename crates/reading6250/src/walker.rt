@@ -7,7 +7,7 @@ ghost use mathlib.Core.Path.{_≡_};
 ghost use Prim.Native.Nat.{_+_, _<_};
 ghost use lib.ListN.{length};
 ghost use Rattle.group_code.specs.Word.{readings};
-ghost use Rattle.judge6250.specs.Judged.{toldJudged, toldChanged};
+ghost use Rattle.judge6250.specs.Told.{toldJudged, toldChanged};
 ghost use Rattle.rectangular.specs.Constants.{mostGroups};
 ghost use Rattle.record6250.specs.Fits.{Passes};
 ghost use Rattle.record6250.specs.Group.{isCorrected};

@@ -63,7 +63,7 @@ module _ (numbers : List ℕ) where
   abbrev first-stray : ℕ
   first-stray = firstBelow 9 (λ k. ltb 1023 (getD numbers k 0))
 
-  number-below : strayNumbers numbers ≡ false → (k : ℕ) → k < 9 → getD numbers k 0 < 1024
+  pub number-below : strayNumbers numbers ≡ false → (k : ℕ) → k < 9 → getD numbers k 0 < 1024
   unfolding strayNumbers
   number-below e k h =
       let all : 9 ≤ first-stray = ltb-false first-stray 9 e in

@@ -4,14 +4,15 @@ use mathlib.Core.Path.{_≡_, refl, _∙_}
 use Prim.Native.Nat.{_+_, _-_, _≤_}
 use native.Mathlib.Omega.{arith}
 use borrow.Author.Needs.{needs}
+use denote.Ref.{now}
 use Rattle.indexed.specs.List.{tabulate, tabulateFrom}
 use Rattle.register.specs.Bit.{ofBits}
-use Rattle.reading6250.proofs.Receiving.{wordsFrom, in-table, mark-there, mark, marks-fit, more-marks, all-marks}
+use Rattle.reading6250.proofs.Receiving.{wordAt, words-at, in-table, mark-there, mark, marks-fit, more-marks, all-marks}
 use Rattle.reading6250.proofs.received.illegal_tracks.Statement.{statement}
 use Rattle.reading6250.proofs.received.illegal_tracks.Tie as tie
 
 abbrev Inv-loop : tie.InvT-loop
-Inv-loop words at backward table illegal₀ k₀ illegal k = (k ≤ 9) × (illegal ≡ ofBits (tabulate k (mark (wordsFrom backward words at))))
+Inv-loop words at backward table illegal₀ k₀ illegal k = (k ≤ 9) × (illegal ≡ ofBits (tabulate k (mark (wordAt backward words at))))
 
 abbrev μ-loop : tie.MeasureT-loop
 μ-loop words at backward table illegal₀ k₀ illegal k = 9 - k
@@ -61,7 +62,8 @@ add-illegal c = record { fits = rw (loop-again c .1) (marks-fit _ _ (loop-again 
 returns : tie.Need-returns Inv-loop μ-loop
 returns c =
     let all : c .before .loop .k ≡ 9 = omega arith in
-    (rw all at (c .before .loop .inv .1)) ∙ all-marks _
+    let args = c .before .before .args in
+    (rw all at (c .before .loop .inv .1)) ∙ all-marks _ _ (words-at (args .backward) (now (args .words)) (args .at))
 
 pub illegal-tracks-spec : {M : Type 1} → statement M
 illegal-tracks-spec =

@@ -5,18 +5,19 @@ use mathlib.Core.Path.{_≡_, refl, sym, _∙_}
 use Prim.Native.Nat.{ℕ, _+_, _-_, _<_, _≤_}
 use native.Mathlib.Omega.{arith}
 use borrow.Author.Needs.{needs}
+use denote.Ref.{now}
 use Rattle.indexed.specs.List.{tabulate, tabulateFrom}
 use Rattle.register.specs.Bit.{ofBits}
 use Rattle.group_code.specs.Word.{valueOf}
 use Rattle.reading6250.proofs.Packing.{packed}
-use Rattle.reading6250.proofs.Receiving.{wordsFrom, in-table, value-there, mark-there, low, mark, packed-fits, more-packed, more-seen, all-values, all-marks}
+use Rattle.reading6250.proofs.Receiving.{wordAt, words-at, in-table, value-there, mark-there, low, mark, packed-fits, more-packed, more-seen, all-values, all-marks}
 use Rattle.reading6250.proofs.received.receive.Statement.{statement}
 use Rattle.reading6250.proofs.received.receive.Tie as tie
 
 abbrev Inv-loop : tie.InvT-loop
 Inv-loop words at backward table tracks₀ parity₀ seen₀ k₀ tracks parity seen k =
-    (k ≤ 9) × (tracks ≡ packed 8 k (low (wordsFrom backward words at))) × ((j : ℕ) → j + 1 ≡ k → parity ≡ valueOf (wordsFrom backward words at j))
-    × (seen < 256 → ofBits (tabulate k (mark (wordsFrom backward words at))) ≡ 0)
+    (k ≤ 9) × (tracks ≡ packed 8 k (low (wordAt backward words at))) × ((j : ℕ) → j + 1 ≡ k → parity ≡ valueOf (wordAt backward words at j))
+    × (seen < 256 → ofBits (tabulate k (mark (wordAt backward words at))) ≡ 0)
 
 abbrev μ-loop : tie.MeasureT-loop
 μ-loop words at backward table tracks₀ parity₀ seen₀ k₀ tracks parity seen k = 9 - k
@@ -73,7 +74,9 @@ returns : tie.Need-returns Inv-loop μ-loop
 returns c =
     let at = c .before .before .loop in
     let all : at .k ≡ 9 = omega arith in
-    (all-values _ _ (rw all at (at .inv .1)) (at .inv .2 8 (omega arith)), sym (rw all at (at .inv .3 (c .if1 .taken))) ∙ all-marks _)
+    let args = c .before .before .before .before .before .args in
+    let are = words-at (args .backward) (now (args .words)) (args .at) in
+    (all-values _ _ are _ (rw all at (at .inv .1)) (at .inv .2 8 (omega arith)), sym (rw all at (at .inv .3 (c .if1 .taken))) ∙ all-marks _ _ are)
 
 illegal-tracks-requires : tie.Need-illegal-tracks-requires Inv-loop μ-loop
 illegal-tracks-requires c κs = c .before .before .before .before .before .pre
@@ -82,7 +85,8 @@ returns-2 : tie.Need-returns-2 Inv-loop μ-loop
 returns-2 c =
     let at = c .before .before .before .loop in
     let all : at .k ≡ 9 = omega arith in
-    (all-values _ _ (rw all at (at .inv .1)) (at .inv .2 8 (omega arith)), c .illegal-tracks .ensures)
+    let args = c .before .before .before .before .before .before .args in
+    (all-values _ _ (words-at (args .backward) (now (args .words)) (args .at)) _ (rw all at (at .inv .1)) (at .inv .2 8 (omega arith)), c .illegal-tracks .ensures)
 
 pub receive-spec : {M : Type 1} → statement M
 receive-spec =

@@ -8,16 +8,15 @@ use native.Mathlib.Omega.{arith}
 use denote.Ref.{now}
 use lib.ListN.{length}
 use Rattle.indexed.proofs.Below.{first-below-at, first-below-none}
-use Rattle.record6250.specs.Group.{stray}
-use Rattle.record6250.specs.Read.{readGroup, readMap, firstStray}
+use Rattle.record6250.specs.Read.{strayAt, firstStray}
 use Rattle.indexed.proofs.Below.{one-more-below}
-use Rattle.reading6250.proofs.StrayBits.{stray-told, place-lt, none-stray}
+use Rattle.reading6250.proofs.StrayBits.{stray-told, none-at-all}
 use borrow.Author.Needs.{needs}
 use Rattle.reading6250.proofs.stray.first_stray.Statement.{statement}
 use Rattle.reading6250.proofs.stray.first_stray.Tie as tie
 
 abbrev Inv-loop : tie.InvT-loop
-Inv-loop words maps backward groups g₀ g = (g ≤ length maps) × ((j : ℕ) → j < g → stray (readGroup backward words maps j) (readMap backward words maps j) ≡ false)
+Inv-loop words maps backward groups g₀ g = (g ≤ length maps) × ((j : ℕ) → j < g → strayAt backward words maps j ≡ false)
 
 abbrev μ-loop : tie.MeasureT-loop
 μ-loop words maps backward groups g₀ g = length maps - g
@@ -31,7 +30,7 @@ union-requires-2 c κs = tt
 returns : tie.Need-returns Inv-loop μ-loop
 returns c =
     let args = c .before .before .before .before .before .before .args in
-    sym (none-stray (args .backward) (now (args .words)) (now (args .maps)) (c .before .before .before .before .before .before .pre)
+    sym (none-at-all (args .backward) (now (args .words)) (now (args .maps)) (c .before .before .before .before .before .before .pre)
     (rw (← (c .before .before .before .union .ensures)) (omega (arith, c .before .before .if1 .taken)))
     (rw (← (c .before .union2 .ensures)) (omega (arith, c .if2 .taken))))
 
@@ -45,36 +44,28 @@ mul-is-stray : tie.Need-mul-is-stray Inv-loop μ-loop
 mul-is-stray c =
     let at-place = c in
     let start = c .before .before .before .before .before .before .before in
-    let within : at-place .turned-place .result < length (now (start .args .maps)) =
-    rw (at-place .turned-place .ensures .0)
-    (place-lt (start .args .backward) (now (start .args .words)) (now (start .args .maps)) (start .pre) (c .before .before .loop .g) (c .before .loop-test .taken)) in
+    let within = at-place .turned-place .ensures .1 in
     omega arith
 
 mul-is-stray-2 : tie.Need-mul-is-stray-2 Inv-loop μ-loop
 mul-is-stray-2 c =
     let at-place = c in
     let start = c .before .before .before .before .before .before .before in
-    let within : at-place .turned-place .result < length (now (start .args .maps)) =
-    rw (at-place .turned-place .ensures .0)
-    (place-lt (start .args .backward) (now (start .args .words)) (now (start .args .maps)) (start .pre) (c .before .before .loop .g) (c .before .loop-test .taken)) in
+    let within = at-place .turned-place .ensures .1 in
     omega arith
 
 shared-slice-read-is-stray : tie.Need-shared-slice-read-is-stray Inv-loop μ-loop
 shared-slice-read-is-stray c =
     let at-place = c .before in
     let start = c .before .before .before .before .before .before .before .before in
-    let within : at-place .turned-place .result < length (now (start .args .maps)) =
-    rw (at-place .turned-place .ensures .0)
-    (place-lt (start .args .backward) (now (start .args .words)) (now (start .args .maps)) (start .pre) (c .before .before .before .loop .g) (c .before .before .loop-test .taken)) in
+    let within = at-place .turned-place .ensures .1 in
     within
 
 is-stray-requires : tie.Need-is-stray-requires Inv-loop μ-loop
 is-stray-requires c κs =
     let at-place = c .before in
     let start = c .before .before .before .before .before .before .before .before in
-    let within : at-place .turned-place .result < length (now (start .args .maps)) =
-    rw (at-place .turned-place .ensures .0)
-    (place-lt (start .args .backward) (now (start .args .words)) (now (start .args .maps)) (start .pre) (c .before .before .before .loop .g) (c .before .before .loop-test .taken)) in
+    let within = at-place .turned-place .ensures .1 in
     omega (arith, start .pre)
 
 returns-2 : tie.Need-returns-2 Inv-loop μ-loop
@@ -99,7 +90,7 @@ loop-again c =
     let at = c .before .before .before .before .before .loop in (
       search needs,
       one-more-below (at .g)
-          (λ g. stray (readGroup (args .backward) (now (args .words)) (now (args .maps)) g) (readMap (args .backward) (now (args .words)) (now (args .maps)) g) ≡ false)
+          (λ g. strayAt (args .backward) (now (args .words)) (now (args .maps)) g ≡ false)
           (at .inv .1)
           (stray-told (args .backward) (now (args .words)) (now (args .maps)) (at .g) (c .before .before .before .turned-place .result)
           (c .before .is-stray .result) (c .before .before .before .turned-place .ensures .0) (c .before .is-stray .ensures)

@@ -1,16 +1,16 @@
 -- `reading6250::stray::is_stray` meets its contract. The loop's invariant: none of the first `k` words has a stray bit.
 -- Assumes nothing.
-use mathlib.Core.Path.{_≡_, sym}
+use mathlib.Core.Path.{_≡_, sym, ap}
 use Prim.Native.Nat.{ℕ, _+_, _-_, _<_, _≤_}
 use native.Mathlib.Omega.{arith}
 use native.Mathlib.Nat.{not-suc-le-zero}
 use denote.Ref.{now}
-use mathlib.Core.Bool.{false}
+use mathlib.Core.Bool.{Bool, false, _||_}
 use lib.Dec.{ltb}
 use borrow.Author.Tests.{le-ltb}
 use lib.ListN.{getD}
 use Rattle.indexed.proofs.Below.{one-more-below}
-use Rattle.reading6250.proofs.StrayBits.{stray-word, no-stray-word}
+use Rattle.reading6250.proofs.StrayBits.{stray-number, no-stray-number}
 use borrow.Author.Needs.{needs}
 use Rattle.reading6250.proofs.stray.is_stray.Statement.{statement}
 use Rattle.reading6250.proofs.stray.is_stray.Tie as tie
@@ -37,7 +37,7 @@ returns : tie.Need-returns Inv-loop μ-loop
 returns c =
     let args = c .before .before .before .before .args in
     let at = c .before .before .before .loop in
-    sym (stray-word (now (args .words)) (args .at) (args .map) (at .k) (search needs) (at .inv .1) (c .if1 .taken))
+    sym (ap (λ (b : Bool). b || ltb 511 (args .map)) (stray-number (now (args .words)) (args .at) (at .k) (search needs) (at .inv .1) (c .if1 .taken)))
 
 add-k : tie.Need-add-k Inv-loop μ-loop
 add-k c = search needs
@@ -59,7 +59,7 @@ returns-2 c =
     let args = c .before .before .args in
     let at = c .before .loop in
     let all : at .k ≡ 9 = omega arith in
-    sym (no-stray-word (now (args .words)) (args .at) (args .map) (λ j h. at .inv .1 j (rw all h)))
+    sym (ap (λ (b : Bool). b || ltb 511 (args .map)) (no-stray-number (now (args .words)) (args .at) (λ j h. at .inv .1 j (rw all h))))
 
 pub is-stray-spec : {M : Type 1} → statement M
 is-stray-spec =
