@@ -28,8 +28,7 @@ use Rattle.rectangular.specs.Constants as sixConstants
 use Rattle.cyclic.specs.Constants as eightConstants
 use Rattle.track_order.proofs.Order.{length-arranged}
 use Rattle.track_order.specs.Moved.{wordsAnswer, mapAnswer}
-use Rattle.track_order.specs.Order.{order, inverse, toPhysical, toAlgebraic}
-use Rattle.terms.specs.Call.{Call, write, read, wordsToPhysical, wordsToAlgebraic, mapToPhysical, mapToAlgebraic, answerTo, resultOf, places}
+use Rattle.terms.specs.Call.{Call, write, read, moveWords, moveMap, answerTo, resultOf, places}
 use Rattle.terms.specs.Reading.{bpi6250, bpi800, Reading, at6250, at800, Enough, Passes, Fits, writtenRecord, readAnswer, readData}
 use Rattle.terms.specs.Terms.{FirstTerm}
 use Rattle.terms.proofs.Third.{one-delivered, delivered-passes, delivered-one}
@@ -99,10 +98,8 @@ listed-answer (write bpi6250 bytes) space =
 listed-answer (write bpi800 bytes) space =
     first-rows 0 (leb 1 (length bytes) && leb (length bytes) eightConstants.mostData) (leb (length bytes + 2) space) _ (λ s. listed-delivery 0 _)
 listed-answer (read r) space = listed-read r space
-listed-answer (wordsToPhysical source) space = listed-words source space
-listed-answer (wordsToAlgebraic source) space = listed-words source space
-listed-answer (mapToPhysical m) space = listed-map _ m
-listed-answer (mapToAlgebraic m) space = listed-map _ m
+listed-answer (moveWords way source) space = listed-words source space
+listed-answer (moveMap way m) space = listed-map _ m
 
 -- ---- the space of a delivery
 
@@ -124,18 +121,14 @@ words-within source space figures e =
     leb-true 9 space (test-held (leb 9 space) _ 2 0 figures (test-held (eqb (length source) 9) _ 1 0 figures e .1) .0)
 
 result-within : (call : Call) (space : ℕ) (figures : List ℕ) → answerTo call space ≡ delivered figures → length (resultOf call) ≤ space
-unfolding answerTo resultOf writtenRecord toPhysical toAlgebraic
+unfolding answerTo resultOf writtenRecord
 result-within (write bpi6250 bytes) space figures e =
     omega (arith, sixRecord.length-record bytes, sixAnswer.written-passed (length bytes) space figures e .1)
 result-within (write bpi800 bytes) space figures e =
     omega (arith, eightRecord.length-record bytes, eightAnswer.written-passed (length bytes) space figures e .1)
 result-within (read r) space figures e = read-within r space figures e
-result-within (wordsToPhysical source) space figures e =
-    omega (arith, length-arranged order source, words-within source space figures e)
-result-within (wordsToAlgebraic source) space figures e =
-    omega (arith, length-arranged (inverse order) source, words-within source space figures e)
-result-within (mapToPhysical m) space figures e = omega arith
-result-within (mapToAlgebraic m) space figures e = omega arith
+result-within (moveWords way source) space figures e = omega (arith, length-arranged way source, words-within source space figures e)
+result-within (moveMap way m) space figures e = omega arith
 
 -- ---- the first term, of any answer and output that are the call's
 

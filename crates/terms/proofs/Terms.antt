@@ -5,7 +5,7 @@ use mathlib.Core.Path.{_≡_, refl}
 use Prim.Native.Nat.{ℕ}
 use lib.ListN.{length}
 use Rattle.answer.specs.Answer.{Answer, outputAfter}
-use Rattle.terms.specs.Call.{Call, write, read, wordsToPhysical, wordsToAlgebraic, mapToPhysical, mapToAlgebraic, answerTo, resultOf}
+use Rattle.terms.specs.Call.{Call, write, read, moveWords, moveMap, answerTo, resultOf}
 use Rattle.terms.specs.Terms.{SecondTerm, ThirdTerm, Terms}
 use Rattle.terms.proofs.First.{ends}
 use Rattle.terms.proofs.Second.{writes, reads}
@@ -17,20 +17,16 @@ module _ (answer : Answer) (before after : List ℕ) where
   unfolding SecondTerm answerTo resultOf
   second-term (write d bytes) answers stores = writes d bytes answer before after answers stores
   second-term (read r) answers stores = reads r answer before after answers stores
-  second-term (wordsToPhysical source) answers stores = tt
-  second-term (wordsToAlgebraic source) answers stores = tt
-  second-term (mapToPhysical m) answers stores = tt
-  second-term (mapToAlgebraic m) answers stores = tt
+  second-term (moveWords way source) answers stores = tt
+  second-term (moveMap way m) answers stores = tt
 
   third-term : (call : Call) → answer ≡ answerTo call (length before) → after ≡ outputAfter answer (resultOf call) before
       → ThirdTerm call answer before after
   unfolding ThirdTerm answerTo resultOf
   third-term (write d bytes) answers stores = tt
   third-term (read r) answers stores = decides r answer before after answers stores
-  third-term (wordsToPhysical source) answers stores = tt
-  third-term (wordsToAlgebraic source) answers stores = tt
-  third-term (mapToPhysical m) answers stores = tt
-  third-term (mapToAlgebraic m) answers stores = tt
+  third-term (moveWords way source) answers stores = tt
+  third-term (moveMap way m) answers stores = tt
 
   pub terms-hold : (call : Call) → answer ≡ answerTo call (length before) → after ≡ outputAfter answer (resultOf call) before
       → Terms call answer before after

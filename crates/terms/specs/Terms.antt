@@ -10,7 +10,7 @@ use Prim.Native.Nat.{ℕ, _*_, _<_, _≤_}
 use lib.ListN.{length, getD, take, drop}
 use Rattle.answer.specs.Answer.{Answer, delivered, refused, refusals, outputAfter}
 use Rattle.rectangular.specs.Constants.{numbersPerGroup}
-use Rattle.terms.specs.Call.{Call, write, read, wordsToPhysical, wordsToAlgebraic, mapToPhysical, mapToAlgebraic, resultOf, places}
+use Rattle.terms.specs.Call.{Call, write, read, moveWords, moveMap, resultOf, places}
 use Rattle.terms.specs.Reading.{Density, bpi6250, bpi800, Reading, density, isBackward, received, IsData, writtenRecord, turned, undamaged, Enough, Passes, Fits, OneFits, told, unchanged, lengthTold, changesTold, readAnswer, readData}
 
 -- ---- the first term
@@ -53,10 +53,8 @@ pub record Reads (r : Reading) (answer : Answer) (before after : List ℕ) : Typ
 unfoldable pub SecondTerm : Call → Answer → List ℕ → List ℕ → Type 0
 SecondTerm (write d bytes) answer before after = Writes d bytes answer before after
 SecondTerm (read r) answer before after = Reads r answer before after
-SecondTerm (wordsToPhysical source) answer before after = Unit
-SecondTerm (wordsToAlgebraic source) answer before after = Unit
-SecondTerm (mapToPhysical m) answer before after = Unit
-SecondTerm (mapToAlgebraic m) answer before after = Unit
+SecondTerm (moveWords way source) answer before after = Unit
+SecondTerm (moveMap way m) answer before after = Unit
 
 -- ---- the third term
 
@@ -76,10 +74,8 @@ pub record Decides (r : Reading) (answer : Answer) (before after : List ℕ) : T
 unfoldable pub ThirdTerm : Call → Answer → List ℕ → List ℕ → Type 0
 ThirdTerm (write d bytes) answer before after = Unit
 ThirdTerm (read r) answer before after = Passes r (length before) → Decides r answer before after
-ThirdTerm (wordsToPhysical source) answer before after = Unit
-ThirdTerm (wordsToAlgebraic source) answer before after = Unit
-ThirdTerm (mapToPhysical m) answer before after = Unit
-ThirdTerm (mapToAlgebraic m) answer before after = Unit
+ThirdTerm (moveWords way source) answer before after = Unit
+ThirdTerm (moveMap way m) answer before after = Unit
 
 -- "Exactly one record" is said of data, since a written record has one list of data.
 unfoldable pub OneData : Density → Type 0

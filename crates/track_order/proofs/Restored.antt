@@ -9,7 +9,7 @@ use native.Mathlib.Omega.{arith}
 use lib.ListN.{length, getD, List·getD-eq-default}
 use Rattle.register.specs.Bit.{bitsOf, ofBits}
 use Rattle.register.proofs.Bit.{Digits, length-bitsOf, digits-bitsOf, ofBits-bitsOf, bitsOf-ofBits}
-use Rattle.track_order.specs.Order.{order, inverse, arranged, toPhysical, toAlgebraic, mapToPhysical, mapToAlgebraic}
+use Rattle.track_order.specs.Order.{order, inverse, arranged, arrangedMap, toPhysical, toAlgebraic, mapToPhysical, mapToAlgebraic}
 use Rattle.track_order.proofs.Order.{order-permutation, length-arranged, getD-arranged, out-and-back, back-and-out}
 
 -- the nine bits of a map, arranged, are nine bits
@@ -23,16 +23,15 @@ arranged-digits places m k = by (decLt k 9)
         (zero-lt-suc 1)
 
 pub words-physical-and-back : (words : List ℕ) → length words ≡ 9 → toAlgebraic (toPhysical words) ≡ words
-unfolding toAlgebraic toPhysical
 words-physical-and-back = out-and-back order order-permutation
 
 pub words-algebraic-and-back : (words : List ℕ) → length words ≡ 9 → toPhysical (toAlgebraic words) ≡ words
-unfolding toAlgebraic toPhysical
 words-algebraic-and-back = back-and-out order order-permutation
 
 -- a map arranged one way and then the other
 map-restored : (first second : List ℕ) → ((l : List ℕ) → length l ≡ 9 → arranged second (arranged first l) ≡ l)
-    → (m : ℕ) → m < 512 → ofBits (arranged second (bitsOf 9 (ofBits (arranged first (bitsOf 9 m))))) ≡ m
+    → (m : ℕ) → m < 512 → arrangedMap second (arrangedMap first m) ≡ m
+unfolding arrangedMap
 map-restored first second back m h =
     ap (λ (l : List ℕ). ofBits (arranged second l))
     (bitsOf-ofBits 9 (arranged first (bitsOf 9 m)) (length-arranged first (bitsOf 9 m)) (arranged-digits first m))
@@ -40,9 +39,7 @@ map-restored first second back m h =
     ∙ ofBits-bitsOf 9 m h
 
 pub map-physical-and-back : (m : ℕ) → m < 512 → mapToAlgebraic (mapToPhysical m) ≡ m
-unfolding mapToAlgebraic mapToPhysical toAlgebraic toPhysical
 map-physical-and-back = map-restored order (inverse order) (out-and-back order order-permutation)
 
 pub map-algebraic-and-back : (m : ℕ) → m < 512 → mapToPhysical (mapToAlgebraic m) ≡ m
-unfolding mapToAlgebraic mapToPhysical toAlgebraic toPhysical
 map-algebraic-and-back = map-restored (inverse order) order (back-and-out order order-permutation)

@@ -8,6 +8,7 @@ use lib.Dec.{eqb}
 use lib.ListN.{length, getD}
 use Rattle.indexed.specs.List.{tabulate, firstWhere}
 use Rattle.register.specs.Bit.{bitsOf, ofBits}
+use Rattle.rectangular.specs.Constants.{tracks}
 
 -- note 11: the algebraic tracks on physical tracks 1 to 9, the P track being 8
 unfoldable pub order : List ℕ
@@ -19,30 +20,33 @@ indexIn places a = firstWhere (λ b. eqb b a) places
 
 -- for algebraic tracks 0 to 8, the index of the physical track that has it
 unfoldable pub inverse : List ℕ → List ℕ
-inverse places = tabulate 9 (λ a. indexIn places a)
+inverse places = tabulate tracks (λ a. indexIn places a)
 
 -- nine places that are 0 to 8, each once
 pub record Permutation (places : List ℕ) : Type 0 where
-  pub nine : length places ≡ 9
-  pub below : (k : ℕ) → k < 9 → getD places k 0 < 9
-  pub once : (k : ℕ) → k < 9 → indexIn places (getD places k 0) ≡ k
-  pub onto : (a : ℕ) → a < 9 → indexIn places a < 9
+  pub nine : length places ≡ tracks
+  pub below : (k : ℕ) → k < tracks → getD places k 0 < tracks
+  pub once : (k : ℕ) → k < tracks → indexIn places (getD places k 0) ≡ k
+  pub onto : (a : ℕ) → a < tracks → indexIn places a < tracks
 
 -- the nine elements at the nine places
 unfoldable pub arranged : List ℕ → List ℕ → List ℕ
-arranged places elements = tabulate 9 (λ k. getD elements (getD places k 0) 0)
+arranged places elements = tabulate tracks (λ k. getD elements (getD places k 0) 0)
 
--- nine elements in code order, moved to head order
-unfoldable pub toPhysical : List ℕ → List ℕ
-toPhysical elements = arranged order elements
+-- a pointer map, moved as its nine bits are
+unfoldable pub arrangedMap : List ℕ → ℕ → ℕ
+arrangedMap places m = ofBits (arranged places (bitsOf tracks m))
 
--- nine elements in head order, moved to code order
-unfoldable pub toAlgebraic : List ℕ → List ℕ
-toAlgebraic elements = arranged (inverse order) elements
+-- from code order to head order: nine elements, and a map
+abbrev pub toPhysical : List ℕ → List ℕ
+toPhysical = arranged order
 
--- a pointer map moves as its nine bits do
-unfoldable pub mapToPhysical : ℕ → ℕ
-mapToPhysical m = ofBits (toPhysical (bitsOf 9 m))
+abbrev pub mapToPhysical : ℕ → ℕ
+mapToPhysical = arrangedMap order
 
-unfoldable pub mapToAlgebraic : ℕ → ℕ
-mapToAlgebraic m = ofBits (toAlgebraic (bitsOf 9 m))
+-- from head order to code order
+abbrev pub toAlgebraic : List ℕ → List ℕ
+toAlgebraic = arranged (inverse order)
+
+abbrev pub mapToAlgebraic : ℕ → ℕ
+mapToAlgebraic = arrangedMap (inverse order)

@@ -73,7 +73,6 @@ same-length : tie.Need-same-length Inv-loop μ-loop
 same-length c = c .before .loop .inv .1
 
 returns : tie.Need-returns Inv-loop μ-loop
-unfolding toAlgebraic
 returns c =
     let at = c .before .loop in
     let args = c .before .before .before .before .args in

@@ -55,7 +55,6 @@ loop-less : tie.Need-loop-less Inv-loop μ-loop
 loop-less c = search needs
 
 loop-again : tie.Need-loop-again Inv-loop μ-loop
-unfolding toPhysical
 loop-again c =
     let from = c .before in
     let at = from .before .before .before .before .loop in
@@ -74,7 +73,6 @@ same-length : tie.Need-same-length Inv-loop μ-loop
 same-length c = c .before .loop .inv .1
 
 returns : tie.Need-returns Inv-loop μ-loop
-unfolding toPhysical
 returns c =
     let at = c .before .loop in
     let args = c .before .before .before .before .args in

@@ -6,7 +6,7 @@ use borrow.Author.Needs.{needs}
 use Rattle.register.specs.Bit.{ofBits}
 use Rattle.track_order.proofs.Moved.{map-refused, map-delivered}
 use Rattle.track_order.specs.Order as Order
-use Rattle.track_order.specs.Order.{order, toPhysical}
+use Rattle.track_order.specs.Order.{order, arrangedMap}
 use Rattle.terms.proofs.Terms.{terms-hold, nothing-stored}
 use Rattle.terms.specs.Call.{mapToPhysical, answerTo, resultOf}
 use Rattle.head_order.proofs.Moved.{array-arranged, array-digits}
@@ -36,12 +36,11 @@ slice-aggregate-map-of : tie.Need-slice-aggregate-map-of
 slice-aggregate-map-of c = search needs
 
 map-of-requires : tie.Need-map-of-requires
-unfolding toPhysical
 map-of-requires c κs =
     array-digits order _ _ _ (c .before .before .before .before .before .bits .ensures) (c .before .before .arrange .ensures)
 
 returns-2 : tie.Need-returns-2
-unfolding Order.mapToPhysical toPhysical answerTo resultOf
+unfolding arrangedMap answerTo resultOf
 returns-2 c =
     let start = c .before .before .before .before .before .before .before .before in
     let m = start .args .map in
