@@ -1,28 +1,21 @@
--- What the two routines for nine words share, and what the two for maps do.
+-- The answer for nine words, and their output.
 -- Assumes nothing.
 use mathlib.Core.Path.{_≡_, refl, sym, ap, _∙_}
 use mathlib.Core.Bool.{Bool, true, false, cond}
-use mathlib.Core.List.{List, [], _++_, append-nil}
+use mathlib.Core.List.{List, [], _++_}
 use Prim.Native.Nat.{ℕ, _≤_}
 use native.Mathlib.Omega.{arith}
 use borrow.Author.Tests.{eqb-true, leb-true}
 use lib.Dec.{eqb, leb, ltb}
 use lib.ListN.{length, drop}
-use Rattle.register.specs.Bit.{bitsOf}
-use Rattle.register.proofs.Bit.{Digits}
 use Rattle.answer.specs.Answer.{Answer, delivered, refusedFor, outputAfter}
 use Rattle.slices.specs.Above.{firstAbove}
 use Rattle.answer.specs.declared.Refusal.{Refusal}
 use Rattle.answer.specs.declared.Reason.the-variants.{Length, Space, StrayBits}
 use Rattle.track_order.specs.Moved.{wordsAnswer}
-use Rattle.track_order.specs.Order.{arranged}
-use Rattle.track_order.proofs.Order.{length-arranged}
-use Rattle.track_order.proofs.Restored.{arranged-digits}
 use Rattle.head_order.specs.declared.MovedWords.{MovedWords}
 use Rattle.head_order.specs.declared.MovedWords.the-variants.{Delivered, Refused}
 use Rattle.head_order.specs.Told.{toldWords}
-
--- ---- nine words
 
 -- a delivery says that there are nine words and space for them
 pub delivered-sizes : (source : List ℕ) (space : ℕ) (a : MovedWords) → a ≡ Delivered → toldWords a ≡ wordsAnswer source space
@@ -48,13 +41,3 @@ delivered-output moved target after nine a e stored =
 pub refused-output : (moved target : List ℕ) (a : MovedWords) (r : Refusal) → a ≡ Refused r → target ≡ outputAfter (toldWords a) moved target
 unfolding outputAfter
 refused-output moved target a r e = ap (λ (x : MovedWords). outputAfter (toldWords x) moved target) (sym e)
-
--- ---- a map
-
--- what the loops leave in an array of nine, and that it is nine bits
-module _ (places source after : List ℕ) (m : ℕ) (bits : source ≡ bitsOf 9 m) (stored : after ≡ arranged places source ++ []) where
-  pub array-arranged : after ≡ arranged places (bitsOf 9 m)
-  array-arranged = stored ∙ append-nil (arranged places source) ∙ ap (arranged places) bits
-
-  pub array-digits : (length after ≡ 9) × Digits after
-  array-digits = rw array-arranged (length-arranged places (bitsOf 9 m), arranged-digits places m)

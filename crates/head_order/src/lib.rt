@@ -3,15 +3,12 @@
 pub mod to_algebraic;
 pub mod to_physical;
 mod track;
+mod ways;
 
 use answer::Reason;
 use answer::Refusal;
 use rectangular::Code6250;
 ghost use mathlib.Core.Path.{_≡_};
-ghost use Prim.Native.Nat.{ℕ, _<_};
-ghost use lib.ListN.{length, getD};
-ghost use Rattle.register.specs.Bit.{bitsOf, ofBits};
-ghost use Rattle.rectangular.specs.Constants.{tracks};
 ghost use Rattle.track_order.specs.Moved.{wordsAnswer};
 ghost use Rattle.head_order.specs.Told.{toldWords};
 
@@ -25,33 +22,6 @@ pub enum MovedWords {
 pub enum MovedMap {
     Delivered(u16),
     Refused(Refusal),
-}
-
-// The nine bits of a map, bit k at k.
-fn bits(map: u16) -> [u16; Code6250::TRACKS]
-    ensures { λ r. ⌜ r ≡ bitsOf tracks map ⌝ }
-{
-    let mut found = [0u16; Code6250::TRACKS];
-    let mut k = 0;
-    while k < Code6250::TRACKS {
-        found[k] = (map >> k) % 2;
-        k += 1;
-    }
-    found
-}
-
-// The map whose nine bits these are.
-fn map_of(bits: &[u16]) -> u16
-    requires { ⌜ (length (now bits) ≡ tracks) × ((k : ℕ) → getD (now bits) k 0 < 2) ⌝ }
-    ensures { λ r. ⌜ r ≡ ofBits (now (bits .entry)) ⌝ }
-{
-    let mut map: u16 = 0;
-    let mut k = Code6250::TRACKS;
-    while k > 0 {
-        k -= 1;
-        map = map * 2 + bits[k];
-    }
-    map
 }
 
 // Refusals 1, 2 and 3, in this order, or the delivery.

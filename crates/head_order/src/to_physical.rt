@@ -1,34 +1,17 @@
 // From code order to head order.
 use crate::MovedMap;
 use crate::MovedWords;
-use crate::track::PhysicalTrack;
-use answer::Reason;
-use answer::Refusal;
-use rectangular::Code6250;
+use crate::track;
+use crate::ways;
 ghost use mathlib.Core.Path.{_≡_};
-ghost use mathlib.Core.List.{[], _++_};
-ghost use Prim.Native.Nat.{_≤_};
-ghost use lib.ListN.{length, drop};
+ghost use mathlib.Core.List.{[]};
+ghost use lib.ListN.{length};
 ghost use Rattle.answer.specs.Answer.{outputAfter};
-ghost use Rattle.rectangular.specs.Constants.{tracks};
 ghost use Rattle.track_order.specs.Order.{toPhysical, mapToPhysical};
 ghost use Rattle.track_order.specs.Moved.{wordsAnswer, mapAnswer};
 ghost use Rattle.head_order.specs.Told.{toldWords, toldMap};
 ghost use Rattle.terms.specs.Call as Call;
 ghost use Rattle.terms.specs.Terms.{Terms};
-
-// Nine words of code order, put into head order at the front of the target.
-fn arrange(source: &[u16], target: &mut [u16])
-    requires { ⌜ (length (now source) ≡ tracks) × (tracks ≤ length (now target)) ⌝ }
-    ensures { λ _. ⌜ now (target .exit) ≡ toPhysical (now (source .entry)) ++ drop tracks (now (target .entry)) ⌝ }
-{
-    let mut place = 0;
-    while place < Code6250::TRACKS {
-        let from = PhysicalTrack::at(place).algebraic().place();
-        target[place] = source[from];
-        place += 1;
-    }
-}
 
 // Moves nine words.
 pub fn words(source: &[u16], target: &mut [u16]) -> MovedWords
@@ -36,11 +19,8 @@ pub fn words(source: &[u16], target: &mut [u16]) -> MovedWords
     ensures output { λ r. ⌜ now (target .exit) ≡ outputAfter (toldWords r) (toPhysical (now (source .entry))) (now (target .entry)) ⌝ }
     ensures terms { λ r. ⌜ Terms (Call.wordsToPhysical (now (source .entry))) (toldWords r) (now (target .entry)) (now (target .exit)) ⌝ }
 {
-    let answer = crate::checked(source, target.len());
-    if let MovedWords::Delivered = answer {
-        arrange(source, target);
-    }
-    answer
+    let way = track::order();
+    ways::words(&way, source, target)
 }
 
 // Moves a pointer map. Algebraic track a is bit a of what comes, and physical track p is bit p - 1 of
@@ -49,14 +29,6 @@ pub fn map(map: u16) -> MovedMap
     ensures answer { λ r. ⌜ toldMap r ≡ mapAnswer mapToPhysical map ⌝ }
     ensures terms { λ r. ⌜ Terms (Call.mapToPhysical map) (toldMap r) [] [] ⌝ }
 {
-    if map > Code6250::MOST_MAP {
-        return MovedMap::Refused(Refusal {
-            reason: Reason::StrayBits,
-            place: 0,
-        });
-    }
-    let source = crate::bits(map);
-    let mut target = [0u16; Code6250::TRACKS];
-    arrange(&source, &mut target);
-    MovedMap::Delivered(crate::map_of(&target))
+    let way = track::order();
+    ways::map(&way, map)
 }

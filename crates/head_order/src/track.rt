@@ -1,5 +1,6 @@
 // The two numberings of the tracks (document 000, note 11). Each keeps its number to itself, so that neither can stand
 // in for the other: a physical track is made from its place, and the order table is the only way across.
+use crate::ways::Way;
 use rectangular::Code6250;
 ghost use mathlib.Core.Path.{_≡_};
 ghost use Prim.Native.Nat.{_+_, _-_, _≤_, _<_};
@@ -42,4 +43,17 @@ impl AlgebraicTrack {
     {
         self.0
     }
+}
+
+// The way to head order: for each of its places, the place of the track in code order.
+pub fn order() -> Way
+    ensures { λ r. ⌜ r ≡ order ⌝ }
+{
+    let mut way = [0usize; Code6250::TRACKS];
+    let mut k = 0;
+    while k < Code6250::TRACKS {
+        way[k] = PhysicalTrack::at(k).algebraic().place();
+        k += 1;
+    }
+    way
 }

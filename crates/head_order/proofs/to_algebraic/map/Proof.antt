@@ -1,64 +1,25 @@
--- `head_order::to_algebraic::map` meets its contract: the map's nine bits move as nine words do.
+-- `head_order::to_algebraic::map` meets its contract: the way is the order's inverse.
 -- Assumes nothing.
-use mathlib.Core.Path.{ap, _∙_}
-use mathlib.Core.List.{[]}
 use borrow.Author.Needs.{needs}
-use Rattle.register.specs.Bit.{ofBits}
-use Rattle.track_order.proofs.Moved.{map-refused, map-delivered}
-use Rattle.track_order.specs.Order as Order
-use Rattle.track_order.specs.Order.{order, inverse, arrangedMap}
-use Rattle.terms.proofs.Terms.{terms-hold, nothing-stored}
-use Rattle.terms.specs.Call.{mapToAlgebraic, answerTo, resultOf}
-use Rattle.head_order.proofs.Moved.{array-arranged, array-digits}
+use Rattle.track_order.proofs.Order.{order-permutation, inverse-permutation}
 use Rattle.head_order.proofs.to_algebraic.map.Statement.{statement}
 use Rattle.head_order.proofs.to_algebraic.map.Tie as tie
 
+order-requires : tie.Need-order-requires
+order-requires c κs = search needs
+
+inverse-requires : tie.Need-inverse-requires
+inverse-requires c κs = rw (c .before .order .ensures) order-permutation
+
+map-requires : tie.Need-map-requires
+map-requires c κs =
+    let back = c .before in
+    rw (back .inverse .ensures, back .before .before .order .ensures) (inverse-permutation _ order-permutation)
+
 returns : tie.Need-returns
-unfolding answerTo resultOf
 returns c =
-    let m = c .before .args .map in
-    let answers = map-refused Order.mapToAlgebraic m (c .if1 .taken) in
-    (answers, terms-hold _ [] [] (mapToAlgebraic m) answers (nothing-stored _))
-
-bits-requires : tie.Need-bits-requires
-bits-requires c κs = search needs
-
-slice-aggregate-arrange : tie.Need-slice-aggregate-arrange
-slice-aggregate-arrange c = search needs
-
-slice-aggregate-arrange-2 : tie.Need-slice-aggregate-arrange-2
-slice-aggregate-arrange-2 c = search needs
-
-arrange-requires : tie.Need-arrange-requires
-arrange-requires c κs = search needs
-
-slice-aggregate-map-of : tie.Need-slice-aggregate-map-of
-slice-aggregate-map-of c = search needs
-
-map-of-requires : tie.Need-map-of-requires
-map-of-requires c κs =
-    array-digits (inverse order) _ _ _ (c .before .before .before .before .before .bits .ensures) (c .before .before .arrange .ensures)
-
-returns-2 : tie.Need-returns-2
-unfolding arrangedMap answerTo resultOf
-returns-2 c =
-    let start = c .before .before .before .before .before .before .before .before in
-    let m = start .args .map in
-    let answers =
-    map-delivered Order.mapToAlgebraic m (c .before .before .before .before .before .before .before .if1 .left) (c .map-of .result)
-    (c .map-of .ensures
-    ∙ ap ofBits (array-arranged (inverse order) _ _ _ (c .before .before .before .before .before .before .bits .ensures) (c .before .before .before .arrange .ensures))) in
-    (answers, terms-hold _ [] [] (mapToAlgebraic m) answers (nothing-stored _))
+    let back = c .before .before in
+    rw (back .inverse .ensures, back .before .before .order .ensures) at (c .map .ensures)
 
 pub map-spec : {M : Type 1} → statement M
-map-spec =
-    tie.close
-    (tie.spec
-    returns
-    bits-requires
-    slice-aggregate-arrange
-    slice-aggregate-arrange-2
-    arrange-requires
-    slice-aggregate-map-of
-    map-of-requires
-    returns-2)
+map-spec = tie.close (tie.spec order-requires inverse-requires map-requires returns)
