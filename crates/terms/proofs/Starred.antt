@@ -28,9 +28,9 @@ use Rattle.record6250.specs.Record.{padding, body, groupsFor, groupBytes, group
 use Rattle.record6250.specs.Written.{writeAnswer}
 use Rattle.terms.specs.Call.{answerTo, resultOf}
 use Rattle.terms.specs.Reading as Reading
-use Rattle.terms.specs.Starred.{lent, answered, leaves, Row, written, readings, forward, backward, starred}
+use Rattle.terms.specs.Starred.{lent, answered, leaves, Row, row, made, written, group6250, characters800, readings, rowOf, starred}
 
 pub starred-hold : (map (λ (r : Row). answered (r .asked)) starred ≡ map (λ (r : Row). r .answer) starred)
     × (map (λ (r : Row). leaves (r .asked)) starred ≡ map (λ (r : Row). r .output) starred)
-unfolding starred written readings forward backward lent answered leaves answerTo resultOf Reading.turned Reading.writtenRecord Reading.readAnswer Reading.readData turnedWords pictureWords pictureMaps eightWritten.writeAnswer eight.writtenRecord eight.withCheck eight.longitudinal eight.checkCharacter held eight.characterOf eightRead.readAnswer eightRead.readData eightRead.firstStray eightRead.lengthSuits eightRead.judgedData eightRead.judgedAnswer eightRead.oneOf eightRead.holds eightRead.candidate eightRead.wrongCount eightRead.wrongParity eightRead.longitudinalRead eightRead.errorPattern eightRead.checkRead eightRead.wrong eightRead.expectedParity eightRead.picture firstAbove parity parityDigits outputAfter writeAnswer writtenRecord firstGroups groupWords groupBytes groupsFor body padding readAnswer judgedAnswer changes readData readBody firstUnfit firstStray changedTracks judgement readMap readGroup unpadded paddingSuits lastByte lengthsSuit mapRead groupRead rightWords rightBytes reasonOf rightValues isCorrected judgedGroup pointed illegalMap stray changedMap judged twoTracks oneTrack errorAt secondError erasure weighed checkSyndrome paritySyndrome pointedTracks group track column character check information informationOf forwardWord reversedWord mirrored illegality valueOf legalWord legal decoded xorSum shift shifts bit ofBits tabulate tabulateFrom blocks firstWhere below firstBelow keep turnedPlace total ones onesIn
+unfolding starred written row made readings group6250 characters800 rowOf lent answered leaves answerTo resultOf Reading.turned Reading.writtenRecord Reading.readAnswer Reading.readData turnedWords pictureWords pictureMaps eightWritten.writeAnswer eight.writtenRecord eight.withCheck eight.longitudinal eight.checkCharacter held eight.characterOf eightRead.readAnswer eightRead.readData eightRead.firstStray eightRead.lengthSuits eightRead.judgedData eightRead.judgedAnswer eightRead.oneOf eightRead.holds eightRead.candidate eightRead.wrongCount eightRead.wrongParity eightRead.longitudinalRead eightRead.errorPattern eightRead.checkRead eightRead.wrong eightRead.expectedParity eightRead.picture firstAbove parity parityDigits outputAfter writeAnswer writtenRecord firstGroups groupWords groupBytes groupsFor body padding readAnswer judgedAnswer changes readData readBody firstUnfit firstStray changedTracks judgement readMap readGroup unpadded paddingSuits lastByte lengthsSuit mapRead groupRead rightWords rightBytes reasonOf rightValues isCorrected judgedGroup pointed illegalMap stray changedMap judged twoTracks oneTrack errorAt secondError erasure weighed checkSyndrome paritySyndrome pointedTracks group track column character check information informationOf forwardWord reversedWord mirrored illegality valueOf legalWord legal decoded xorSum shift shifts bit ofBits tabulate tabulateFrom blocks firstWhere below firstBelow keep turnedPlace total ones onesIn
 starred-hold = (refl, refl)

@@ -39,95 +39,55 @@ pub record Row : Type 0 where
   pub answer : Answer
   pub output : List ℕ
 
+-- a row of a call: its answer, and the front of its output, empty after a refusal, behind which what was lent is kept
+unfoldable pub row : Call → Answer → List ℕ → Row
+row call answer front = record { asked = called call; answer = answer; output = front ++ drop (length front) lent }
+
+-- and one of what is made of data, where no output is lent
+unfoldable pub made : Asked → List ℕ → Row
+made asked output = record { asked = asked; answer = delivered []; output = output }
+
 -- what is written
 unfoldable pub written : List Row
 written =
-    record { asked = body6250 []; answer = delivered []; output = 0 ∷ 0 ∷ 0 ∷ 0 ∷ 0 ∷ 0 ∷ 6 ∷ [] }
-    ∷ record {
-      asked = called (write bpi6250 []);
-      answer = delivered (1 ∷ []);
-      output = 825 ∷ 818 ∷ 819 ∷ 827 ∷ 825 ∷ 825 ∷ 825 ∷ 825 ∷ 825 ∷ drop 9 lent;
-    }
-    ∷ record {
-      asked = called (write bpi6250 (0x01 ∷ []));
-      answer = delivered (1 ∷ []);
-      output = 850 ∷ 827 ∷ 818 ∷ 827 ∷ 825 ∷ 825 ∷ 825 ∷ 827 ∷ 859 ∷ drop 9 lent;
-    }
-    ∷ record {
-      asked = called (write bpi800 (131 ∷ 212 ∷ 148 ∷ 248 ∷ 234 ∷ []));
-      answer = delivered (7 ∷ []);
-      output = 131 ∷ 468 ∷ 148 ∷ 248 ∷ 234 ∷ 510 ∷ 47 ∷ drop 7 lent;
-    }
-    ∷ record { asked = unaltered800 (131 ∷ 212 ∷ 148 ∷ 248 ∷ 234 ∷ []); answer = delivered []; output = 41 ∷ [] }
+    made (body6250 []) (0 ∷ 0 ∷ 0 ∷ 0 ∷ 0 ∷ 0 ∷ 6 ∷ [])
+    ∷ row (write bpi6250 []) (delivered (1 ∷ [])) (825 ∷ 818 ∷ 819 ∷ 827 ∷ 825 ∷ 825 ∷ 825 ∷ 825 ∷ 825 ∷ [])
+    ∷ row (write bpi6250 (0x01 ∷ [])) (delivered (1 ∷ [])) (850 ∷ 827 ∷ 818 ∷ 827 ∷ 825 ∷ 825 ∷ 825 ∷ 827 ∷ 859 ∷ [])
+    ∷ row (write bpi800 (131 ∷ 212 ∷ 148 ∷ 248 ∷ 234 ∷ [])) (delivered (7 ∷ [])) (131 ∷ 468 ∷ 148 ∷ 248 ∷ 234 ∷ 510 ∷ 47 ∷ [])
+    ∷ made (unaltered800 (131 ∷ 212 ∷ 148 ∷ 248 ∷ 234 ∷ [])) (41 ∷ [])
     ∷ []
 
--- what is read, forward
+-- what is read, forward: the answer, and the front of the output
 pub record Read : Type 0 where
   pub reading : Reading
   pub answer : Answer
-  pub output : List ℕ
+  pub front : List ℕ
+
+-- one group with its pointer map, and characters
+unfoldable pub group6250 : List ℕ → ℕ → Answer → List ℕ → Read
+group6250 words pointers answer front = record { reading = at6250 false words (pointers ∷ []); answer = answer; front = front }
+
+unfoldable pub characters800 : List ℕ → Answer → List ℕ → Read
+characters800 characters answer front = record { reading = at800 false characters; answer = answer; front = front }
 
 unfoldable pub readings : List Read
 readings =
-    record {
-      reading = at6250 false (825 ∷ 827 ∷ 818 ∷ 827 ∷ 825 ∷ 825 ∷ 825 ∷ 827 ∷ 859 ∷ []) (0 ∷ []);
-      answer = delivered (1 ∷ 1 ∷ []);
-      output = 0x01 ∷ drop 1 lent;
-    }
-    ∷ record {
-      reading = at6250 false (825 ∷ 827 ∷ 818 ∷ 827 ∷ 825 ∷ 825 ∷ 825 ∷ 827 ∷ 825 ∷ []) (0 ∷ []);
-      answer = refused 5 0;
-      output = lent;
-    }
-    ∷ record {
-      reading = at6250 false (825 ∷ 827 ∷ 818 ∷ 827 ∷ 825 ∷ 825 ∷ 825 ∷ 827 ∷ 825 ∷ []) (257 ∷ []);
-      answer = delivered (1 ∷ 2 ∷ []);
-      output = 0x01 ∷ drop 1 lent;
-    }
-    ∷ record {
-      reading = at6250 false (0 ∷ 827 ∷ 818 ∷ 827 ∷ 825 ∷ 825 ∷ 825 ∷ 827 ∷ 859 ∷ []) (0 ∷ []);
-      answer = delivered (1 ∷ 1 ∷ []);
-      output = 0x01 ∷ drop 1 lent;
-    }
-    ∷ record {
-      reading = at6250 false (0 ∷ 0 ∷ 0 ∷ 827 ∷ 825 ∷ 825 ∷ 825 ∷ 827 ∷ 859 ∷ []) (0 ∷ []);
-      answer = refused 4 0;
-      output = lent;
-    }
-    ∷ record {
-      reading = at6250 false (850 ∷ 827 ∷ 818 ∷ 827 ∷ 825 ∷ 825 ∷ 825 ∷ 827 ∷ 859 ∷ []) (8 ∷ []);
-      answer = delivered (1 ∷ 0 ∷ []);
-      output = 0x01 ∷ drop 1 lent;
-    }
-    ∷ record {
-      reading = at6250 false (825 ∷ 827 ∷ 818 ∷ 827 ∷ 825 ∷ 825 ∷ 825 ∷ 827 ∷ 859 ∷ []) (8 ∷ []);
-      answer = refused 5 0;
-      output = lent;
-    }
-    ∷ record {
-      reading = at6250 false (818 ∷ 819 ∷ 819 ∷ 827 ∷ 825 ∷ 825 ∷ 825 ∷ 825 ∷ 819 ∷ []) (0 ∷ []);
-      answer = refused 6 0;
-      output = lent;
-    }
-    ∷ record {
-      reading = at800 false (131 ∷ 468 ∷ 148 ∷ 248 ∷ 202 ∷ 510 ∷ 47 ∷ []);
-      answer = delivered (5 ∷ 5 ∷ 1 ∷ []);
-      output = 131 ∷ 212 ∷ 148 ∷ 248 ∷ 234 ∷ drop 5 lent;
-    }
-    ∷ record {
-      reading = at800 false (131 ∷ 468 ∷ 148 ∷ 248 ∷ 234 ∷ 510 ∷ 46 ∷ []);
-      answer = delivered (5 ∷ 0 ∷ 1 ∷ []);
-      output = 131 ∷ 212 ∷ 148 ∷ 248 ∷ 234 ∷ drop 5 lent;
-    }
-    ∷ record { reading = at800 false (128 ∷ 468 ∷ 148 ∷ 248 ∷ 234 ∷ 510 ∷ 47 ∷ []); answer = refused 7 0; output = lent }
+    group6250 (825 ∷ 827 ∷ 818 ∷ 827 ∷ 825 ∷ 825 ∷ 825 ∷ 827 ∷ 859 ∷ []) 0 (delivered (1 ∷ 1 ∷ [])) (0x01 ∷ [])
+    ∷ group6250 (825 ∷ 827 ∷ 818 ∷ 827 ∷ 825 ∷ 825 ∷ 825 ∷ 827 ∷ 825 ∷ []) 0 (refused 5 0) []
+    ∷ group6250 (825 ∷ 827 ∷ 818 ∷ 827 ∷ 825 ∷ 825 ∷ 825 ∷ 827 ∷ 825 ∷ []) 257 (delivered (1 ∷ 2 ∷ [])) (0x01 ∷ [])
+    ∷ group6250 (0 ∷ 827 ∷ 818 ∷ 827 ∷ 825 ∷ 825 ∷ 825 ∷ 827 ∷ 859 ∷ []) 0 (delivered (1 ∷ 1 ∷ [])) (0x01 ∷ [])
+    ∷ group6250 (0 ∷ 0 ∷ 0 ∷ 827 ∷ 825 ∷ 825 ∷ 825 ∷ 827 ∷ 859 ∷ []) 0 (refused 4 0) []
+    ∷ group6250 (850 ∷ 827 ∷ 818 ∷ 827 ∷ 825 ∷ 825 ∷ 825 ∷ 827 ∷ 859 ∷ []) 8 (delivered (1 ∷ 0 ∷ [])) (0x01 ∷ [])
+    ∷ group6250 (825 ∷ 827 ∷ 818 ∷ 827 ∷ 825 ∷ 825 ∷ 825 ∷ 827 ∷ 859 ∷ []) 8 (refused 5 0) []
+    ∷ group6250 (818 ∷ 819 ∷ 819 ∷ 827 ∷ 825 ∷ 825 ∷ 825 ∷ 825 ∷ 819 ∷ []) 0 (refused 6 0) []
+    ∷ characters800 (131 ∷ 468 ∷ 148 ∷ 248 ∷ 202 ∷ 510 ∷ 47 ∷ []) (delivered (5 ∷ 5 ∷ 1 ∷ [])) (131 ∷ 212 ∷ 148 ∷ 248 ∷ 234 ∷ [])
+    ∷ characters800 (131 ∷ 468 ∷ 148 ∷ 248 ∷ 234 ∷ 510 ∷ 46 ∷ []) (delivered (5 ∷ 0 ∷ 1 ∷ [])) (131 ∷ 212 ∷ 148 ∷ 248 ∷ 234 ∷ [])
+    ∷ characters800 (128 ∷ 468 ∷ 148 ∷ 248 ∷ 234 ∷ 510 ∷ 47 ∷ []) (refused 7 0) []
     ∷ []
 
--- a reading forward, and the same turned: answer and output are one
-unfoldable pub forward : Read → Row
-forward r = record { asked = called (read (r .reading)); answer = r .answer; output = r .output }
-
-unfoldable pub backward : Read → Row
-backward r = record { asked = called (read (turned (r .reading))); answer = r .answer; output = r .output }
+-- the readings as they stand, and the same turned: answer and output are one
+unfoldable pub rowOf : (Reading → Reading) → Read → Row
+rowOf turn r = row (read (turn (r .reading))) (r .answer) (r .front)
 
 unfoldable pub starred : List Row
-starred = written ++ map forward readings ++ map backward readings
+starred = written ++ map (rowOf (λ r. r)) readings ++ map (rowOf turned) readings
