@@ -145,11 +145,12 @@ fn show_refused(
 {
     let mut end = print::refused(page, refusal);
     let reason = refusal.reason;
-    if reason.number() < 3 {
+    let number = reason.number();
+    if number < 3 {
         return end;
     }
     let right = [0u16; 5283];
-    let place = refused_column(reason, refusal.place, maps.len());
+    let place = refused_column(number, refusal.place, maps.len());
     end = draw(
         page,
         end,

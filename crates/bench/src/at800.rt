@@ -136,11 +136,12 @@ fn show_refused(
 {
     let mut end = print::refused(page, refusal);
     let reason = refusal.reason;
-    if reason.number() < 3 {
+    let number = reason.number();
+    if number < 3 {
         return end;
     }
     let right = [0u16; 2051];
-    let place = refused_column(reason, refusal.place / 32, columns_of(characters.len()));
+    let place = refused_column(number, refusal.place / 32, columns_of(characters.len()));
     end = draw(
         page,
         end,

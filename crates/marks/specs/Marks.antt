@@ -3,7 +3,7 @@
 use Prim.Native.Nat.{ℕ, _+_, _-_, _*_, _/_, _%_, min}
 use mathlib.Core.Bool.{Bool, false, cond, not, _&&_}
 use mathlib.Core.List.{List}
-use lib.Dec.{eqb}
+use lib.Dec.{eqb, leb}
 use lib.ListN.{length, getD}
 use Rattle.indexed.specs.List.{tabulate}
 use Rattle.slices.specs.Turned.{turnedPlace}
@@ -11,8 +11,6 @@ use Rattle.indexed.specs.Test.{allBelow}
 use Rattle.register.specs.Bit.{bit}
 use Rattle.group_code.specs.Word.{legalWord, forwardWord}
 use Rattle.record6250.specs.Picture.{mapRead}
-use Rattle.answer.specs.declared.Reason.{Reason}
-use Rattle.answer.specs.declared.Reason.the-variants.{Length, Space, StrayBits, ManyPointed, NoGroup, Padding, NoRecord, SeveralRecords}
 use Rattle.marks.specs.declared.marks.View.{View}
 
 -- x in a refused column; else C pointed by the drive and corrected, p pointed and right, i an illegal word, which points
@@ -70,13 +68,6 @@ runMark view characters right column track =
 unfoldable pub runMarks : View → List ℕ → List ℕ → ℕ → List ℕ
 runMarks view characters right columns = tabulate (9 * columns) (λ i. runMark view characters right (i / 9) (i % 9))
 
--- the refusals 3, 4 and 5 have a place that is a group or a character; the others refuse no column
-abbrev pub refusedColumn : Reason → ℕ → ℕ → ℕ
-refusedColumn Length column columns = columns
-refusedColumn Space column columns = columns
-refusedColumn StrayBits column columns = column
-refusedColumn ManyPointed column columns = column
-refusedColumn NoGroup column columns = column
-refusedColumn Padding column columns = columns
-refusedColumn NoRecord column columns = columns
-refusedColumn SeveralRecords column columns = columns
+-- the refusals 3, 4 and 5 have a place that is a group or a character; those of any other number refuse no column
+abbrev pub refusedColumn : ℕ → ℕ → ℕ → ℕ
+refusedColumn number column columns = cond (leb 3 number && leb number 5) column columns

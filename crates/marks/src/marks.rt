@@ -4,7 +4,6 @@
 // was read and what was pointed.
 use crate::forward::bit_of;
 use crate::forward::forward_word;
-use answer::Reason;
 use slices::turned_place;
 ghost use mathlib.Core.Bool.{not, _&&_};
 ghost use mathlib.Core.List.{_++_};
@@ -21,20 +20,18 @@ pub struct View {
     pub place: usize,
 }
 
-// The column of a refusal that has one, of so many columns; or the number of columns, which is none of them.
-pub fn refused_column(reason: Reason, column: usize, columns: usize) -> usize
-    ensures { λ r. ⌜ r ≡ refusedColumn reason column columns ⌝ }
+// The column of a refusal that has one, by its number, of so many columns; or the number of columns, which is none
+// of them.
+pub fn refused_column(number: u16, column: usize, columns: usize) -> usize
+    ensures { λ r. ⌜ r ≡ refusedColumn number column columns ⌝ }
 {
-    match reason {
-        Reason::Length => columns,
-        Reason::Space => columns,
-        Reason::StrayBits => column,
-        Reason::ManyPointed => column,
-        Reason::NoGroup => column,
-        Reason::Padding => columns,
-        Reason::NoRecord => columns,
-        Reason::SeveralRecords => columns,
+    if number < 3 {
+        return columns;
     }
+    if number > 5 {
+        return columns;
+    }
+    column
 }
 
 // The mark of a track in a column. A pointer of the drive goes before an illegal word, which points itself.
