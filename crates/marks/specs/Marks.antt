@@ -9,8 +9,9 @@ use Rattle.indexed.specs.List.{tabulate}
 use Rattle.slices.specs.Turned.{turnedPlace}
 use Rattle.indexed.specs.Test.{allBelow}
 use Rattle.register.specs.Bit.{bit}
-use Rattle.group_code.specs.Word.{legalWord, forwardWord}
-use Rattle.record6250.specs.Picture.{mapRead}
+use Rattle.rectangular.specs.Constants.{tracks}
+use Rattle.group_code.specs.Word.{legalWord}
+use Rattle.record6250.specs.Picture.{groupRead, mapRead}
 use Rattle.marks.specs.declared.marks.View.{View}
 
 -- x in a refused column; else C pointed by the drive and corrected, p pointed and right, i an illegal word, which points
@@ -29,20 +30,20 @@ isIllegal word = not (legalWord word)
 abbrev pub isChanged : Bool → ℕ → ℕ → Bool
 isChanged delivered read right = delivered && not (eqb read right)
 
--- a word of a 6250 reading in its forward picture
+-- the word of a track in group g of so many, as it stands in the forward picture
 unfoldable pub wordRead : Bool → List ℕ → ℕ → ℕ → ℕ → ℕ
-wordRead backward words groups g track = forwardWord backward (getD words (9 * turnedPlace backward groups g + track) 0)
+wordRead backward words groups g track = getD (groupRead backward groups words g) track 0
 
 -- track of group g, the words that were delivered beside it
 unfoldable pub groupMark : View → List ℕ → List ℕ → List ℕ → ℕ → ℕ → ℕ
 groupMark view words maps right g track =
     markOf (isPointed (mapRead (view .backward) (length maps) maps g) track) (isIllegal (wordRead (view .backward) words (length maps) g track))
-    (isChanged (view .delivered) (wordRead (view .backward) words (length maps) g track) (getD right (9 * g + track) 0))
+    (isChanged (view .delivered) (wordRead (view .backward) words (length maps) g track) (wordRead false right (length maps) g track))
     (eqb g (view .place))
 
--- all marks, nine to a column
+-- all marks, one for each track in each column
 unfoldable pub groupMarks : View → List ℕ → List ℕ → List ℕ → List ℕ
-groupMarks view words maps right = tabulate (9 * length maps) (λ i. groupMark view words maps right (i / 9) (i % 9))
+groupMarks view words maps right = tabulate (tracks * length maps) (λ i. groupMark view words maps right (i / tracks) (i % tracks))
 
 -- a character of an 800 reading in its forward picture
 unfoldable pub characterRead : Bool → List ℕ → ℕ → ℕ
@@ -66,7 +67,7 @@ runMark view characters right column track =
     markOf false false (view .delivered && not (runRight (view .backward) characters right track (32 * column))) (eqb column (view .place))
 
 unfoldable pub runMarks : View → List ℕ → List ℕ → ℕ → List ℕ
-runMarks view characters right columns = tabulate (9 * columns) (λ i. runMark view characters right (i / 9) (i % 9))
+runMarks view characters right columns = tabulate (tracks * columns) (λ i. runMark view characters right (i / tracks) (i % tracks))
 
 -- the refusals 3, 4 and 5 have a place that is a group or a character; those of any other number refuse no column
 abbrev pub refusedColumn : ℕ → ℕ → ℕ → ℕ

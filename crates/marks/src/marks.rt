@@ -3,13 +3,15 @@
 // a call is turned down"), and what pointed its track. A refusal corrects nothing, so there a mark tells what
 // was read and what was pointed.
 use crate::forward::bit_of;
-use crate::forward::forward_word;
+use crate::forward::word_read;
+use rectangular::Code6250;
 use slices::turned_place;
 ghost use mathlib.Core.Bool.{not, _&&_};
 ghost use mathlib.Core.List.{_++_};
 ghost use mathlib.Core.Path.{_≡_};
 ghost use Prim.Native.Nat.{_+_, _*_, _<_, _≤_};
 ghost use lib.ListN.{length, drop};
+ghost use Rattle.rectangular.specs.Constants.{tracks, numbersPerGroup};
 ghost use Rattle.marks.specs.Marks.{markOf, isPointed, isIllegal, isChanged, groupMark, groupMarks, runLength, runRight, runMark, runMarks, refusedColumn};
 
 // What is shown: which way the record passed the head, whether it was delivered, and the refused column;
@@ -58,7 +60,7 @@ fn mark(pointed: bool, illegal: bool, changed: bool, refused: bool) -> u8
 
 // Whether the drive points a track: its bit in the pointer map of the group.
 fn is_pointed(map: u16, track: usize) -> bool
-    requires { ⌜ track < 9 ⌝ }
+    requires { ⌜ track < tracks ⌝ }
     ensures { λ r. ⌜ r ≡ isPointed map track ⌝ }
 {
     bit_of(map, track) == 1
@@ -87,13 +89,15 @@ fn is_changed(delivered: bool, read: u16, right: u16) -> bool
 
 // The mark of a track in a group of a 6250 reading.
 fn group_mark(words: &[u16], maps: &[u16], right: &[u16], view: View, g: usize, track: usize) -> u8
-    requires { ⌜ (length (now words) ≡ 9 * length (now maps)) × (9 * length (now maps) ≤ length (now right)) × (g < length (now maps)) × (track < 9) ⌝ }
+    requires { ⌜ (numbersPerGroup * length (now maps) ≤ length (now words)) × (numbersPerGroup * length (now maps) ≤ length (now right)) × (g < length (now maps)) × (track < tracks) ⌝ }
     ensures { λ r. ⌜ r ≡ groupMark view (now (words .entry)) (now (maps .entry)) (now (right .entry)) g track ⌝ }
 {
     let backward = view.backward;
-    let at = turned_place(backward, maps.len(), g);
-    let word = forward_word(backward, words[9 * at + track]);
-    let changed = is_changed(view.delivered, word, right[9 * g + track]);
+    let groups = maps.len();
+    let word = word_read(backward, words, groups, g, track);
+    let kept = word_read(false, right, groups, g, track);
+    let changed = is_changed(view.delivered, word, kept);
+    let at = turned_place(backward, groups, g);
     mark(
         is_pointed(maps[at], track),
         is_illegal(word),
@@ -102,14 +106,16 @@ fn group_mark(words: &[u16], maps: &[u16], right: &[u16], view: View, g: usize, 
     )
 }
 
-// All marks of a 6250 reading, nine to a group, at the front.
+// All marks of a 6250 reading, one for each track in each group, at the front.
 pub fn group_marks(words: &[u16], maps: &[u16], right: &[u16], view: View, marks: &mut [u8])
-    requires { ⌜ (length (now words) ≡ 9 * length (now maps)) × (9 * length (now maps) ≤ length (now right)) × (9 * length (now maps) ≤ length (now marks)) ⌝ }
-    ensures { λ _. ⌜ now (marks .exit) ≡ groupMarks view (now (words .entry)) (now (maps .entry)) (now (right .entry)) ++ drop (9 * length (now (maps .entry))) (now (marks .entry)) ⌝ }
+    requires { ⌜ (numbersPerGroup * length (now maps) ≤ length (now words)) × (numbersPerGroup * length (now maps) ≤ length (now right)) × (tracks * length (now maps) ≤ length (now marks)) ⌝ }
+    ensures { λ _. ⌜ now (marks .exit) ≡ groupMarks view (now (words .entry)) (now (maps .entry)) (now (right .entry)) ++ drop (tracks * length (now (maps .entry))) (now (marks .entry)) ⌝ }
 {
+    let end = Code6250::TRACKS * maps.len();
     let mut i = 0;
-    while i < words.len() {
-        marks[i] = group_mark(words, maps, right, view, i / 9, i % 9);
+    while i < end {
+        let column = i / Code6250::TRACKS;
+        marks[i] = group_mark(words, maps, right, view, column, i % Code6250::TRACKS);
         i += 1;
     }
 }
@@ -125,7 +131,7 @@ fn run_length(count: usize, from: usize) -> usize
 
 // Whether a track is as it was delivered in every character of the run that begins at an index.
 fn run_right(characters: &[u16], right: &[u16], backward: bool, track: usize, from: usize) -> bool
-    requires { ⌜ (from ≤ length (now characters)) × (length (now characters) ≤ length (now right)) × (track < 9) ⌝ }
+    requires { ⌜ (from ≤ length (now characters)) × (length (now characters) ≤ length (now right)) × (track < tracks) ⌝ }
     ensures { λ r. ⌜ r ≡ runRight backward (now (characters .entry)) (now (right .entry)) track from ⌝ }
 {
     let count = run_length(characters.len(), from);
@@ -153,7 +159,7 @@ fn run_changed(delivered: bool, is_right: bool) -> bool
 
 // The mark of a track in a run of an 800 reading.
 fn run_mark(characters: &[u16], right: &[u16], view: View, column: usize, track: usize) -> u8
-    requires { ⌜ (32 * column ≤ length (now characters)) × (length (now characters) ≤ length (now right)) × (track < 9) ⌝ }
+    requires { ⌜ (32 * column ≤ length (now characters)) × (length (now characters) ≤ length (now right)) × (track < tracks) ⌝ }
     ensures { λ r. ⌜ r ≡ runMark view (now (characters .entry)) (now (right .entry)) column track ⌝ }
 {
     let is_right = run_right(characters, right, view.backward, track, 32 * column);
@@ -161,15 +167,16 @@ fn run_mark(characters: &[u16], right: &[u16], view: View, column: usize, track:
     mark(false, false, changed, column == view.place)
 }
 
-// All marks of an 800 reading, nine to a run, at the front.
+// All marks of an 800 reading, one for each track in each run, at the front.
 pub fn run_marks(characters: &[u16], right: &[u16], view: View, columns: usize, marks: &mut [u8])
-    requires { ⌜ (32 * columns ≤ length (now characters) + 31) × (length (now characters) ≤ length (now right)) × (9 * columns ≤ length (now marks)) ⌝ }
-    ensures { λ _. ⌜ now (marks .exit) ≡ runMarks view (now (characters .entry)) (now (right .entry)) columns ++ drop (9 * columns) (now (marks .entry)) ⌝ }
+    requires { ⌜ (32 * columns ≤ length (now characters) + 31) × (length (now characters) ≤ length (now right)) × (tracks * columns ≤ length (now marks)) ⌝ }
+    ensures { λ _. ⌜ now (marks .exit) ≡ runMarks view (now (characters .entry)) (now (right .entry)) columns ++ drop (tracks * columns) (now (marks .entry)) ⌝ }
 {
-    let end = 9 * columns;
+    let end = Code6250::TRACKS * columns;
     let mut i = 0;
     while i < end {
-        marks[i] = run_mark(characters, right, view, i / 9, i % 9);
+        let column = i / Code6250::TRACKS;
+        marks[i] = run_mark(characters, right, view, column, i % Code6250::TRACKS);
         i += 1;
     }
 }

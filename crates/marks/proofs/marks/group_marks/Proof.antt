@@ -6,17 +6,21 @@ use native.Mathlib.Omega.{arith}
 use borrow.Author.Needs.{needs}
 use lib.ListN.{length, length-set}
 use Rattle.indexed.proofs.Front.{front}
+use Rattle.rectangular.specs.Constants.{tracks}
 use Rattle.marks.specs.Marks.{groupMark, groupMarks}
 use Rattle.indexed.proofs.Front.{filled-more, filled-all}
 use Rattle.marks.proofs.marks.group_marks.Statement.{statement}
 use Rattle.marks.proofs.marks.group_marks.Tie as tie
 
 abbrev Inv-loop : tie.InvT-loop
-Inv-loop words maps right view marks₀ i₀ marks i =
-    (i ≤ length words) × (length marks ≡ length marks₀) × (marks ≡ front i (groupMarks view words maps right) marks₀)
+Inv-loop words maps right view marks₀ end i₀ marks i =
+    (i ≤ end) × (length marks ≡ length marks₀) × (marks ≡ front i (groupMarks view words maps right) marks₀)
 
 abbrev μ-loop : tie.MeasureT-loop
-μ-loop words maps right view marks₀ i₀ marks i = length words - i
+μ-loop words maps right view marks₀ end i₀ marks i = end - i
+
+mul-end : tie.Need-mul-end Inv-loop μ-loop
+mul-end c = search needs
 
 loop-holds : tie.Need-loop-holds Inv-loop μ-loop
 loop-holds c = (search needs, refl, refl)
@@ -40,7 +44,7 @@ loop-again c =
     let args = c .before .before .before .before .before .before .before .args in (
       search needs,
       length-set (l .marks) (l .i) _ ∙ l .inv .1,
-      filled-more (9 * length (args .maps .now)) (λ j. groupMark (args .view) (args .words .now) (args .maps .now) (args .right .now) (j / 9) (j % 9))
+      filled-more (tracks * length (args .maps .now)) (λ j. groupMark (args .view) (args .words .now) (args .maps .now) (args .right .now) (j / tracks) (j % tracks))
           (args .marks .now) (l .marks) (l .i) _ (l .inv .2) (c .group-mark .ensures) (omega arith) (omega arith),
     )
 
@@ -52,7 +56,7 @@ unfolding groupMarks
 returns c =
     let l = c .before .loop in
     let args = c .before .before .before .before .before .before .args in
-    filled-all (9 * length (args .maps .now)) (λ j. groupMark (args .view) (args .words .now) (args .maps .now) (args .right .now) (j / 9) (j % 9))
+    filled-all (tracks * length (args .maps .now)) (λ j. groupMark (args .view) (args .words .now) (args .maps .now) (args .right .now) (j / tracks) (j % tracks))
     (args .marks .now) (l .marks) (l .i) (l .inv .2) (omega arith)
 
 pub group-marks-spec : {M : Type 1} → statement M
@@ -61,6 +65,7 @@ group-marks-spec =
     (tie.spec
     Inv-loop
     μ-loop
+    mul-end
     loop-holds
     group-mark-requires
     slice-write-marks

@@ -6,6 +6,7 @@ use native.Mathlib.Omega.{arith}
 use borrow.Author.Needs.{needs}
 use lib.ListN.{length, length-set}
 use Rattle.indexed.proofs.Front.{front}
+use Rattle.rectangular.specs.Constants.{tracks}
 use Rattle.marks.specs.Marks.{runMark, runMarks}
 use Rattle.indexed.proofs.Front.{filled-more, filled-all}
 use Rattle.marks.proofs.marks.run_marks.Statement.{statement}
@@ -43,7 +44,7 @@ loop-again c =
     let args = c .before .before .before .before .before .before .args in (
       search needs,
       length-set (l .marks) (l .i) _ ∙ l .inv .1,
-      filled-more (9 * args .columns) (λ j. runMark (args .view) (args .characters .now) (args .right .now) (j / 9) (j % 9))
+      filled-more (tracks * args .columns) (λ j. runMark (args .view) (args .characters .now) (args .right .now) (j / tracks) (j % tracks))
           (args .marks .now) (l .marks) (l .i) _ (l .inv .2) (c .run-mark .ensures) (omega arith) (omega arith),
     )
 
@@ -55,7 +56,7 @@ unfolding runMarks
 returns c =
     let l = c .before .loop in
     let args = c .before .before .before .before .before .args in
-    filled-all (9 * args .columns) (λ j. runMark (args .view) (args .characters .now) (args .right .now) (j / 9) (j % 9))
+    filled-all (tracks * args .columns) (λ j. runMark (args .view) (args .characters .now) (args .right .now) (j / tracks) (j % tracks))
     (args .marks .now) (l .marks) (l .i) (l .inv .2) (omega arith)
 
 pub run-marks-spec : {M : Type 1} → statement M
