@@ -4,6 +4,7 @@ use Prim.Native.Nat.{ℕ, _+_, _-_, _*_, min}
 use mathlib.Core.Bool.{Bool, true, false, cond, not, _&&_}
 use mathlib.Core.List.{List, [], _∷_}
 use lib.Dec.{eqb, ltb}
+use Rattle.rectangular.specs.Constants.{numbersPerGroup}
 use Rattle.bench.specs.declared.text.Class.{Class}
 use Rattle.bench.specs.declared.text.Class.the-variants.{Digit, Blank, Newline, Other}
 use Rattle.bench.specs.declared.text.Number.{Number}
@@ -50,9 +51,12 @@ scanned value at [] = record { value = value; end = at }
 scanned value at (byte ∷ bytes) =
     cond (separating (classOf byte)) (record { value = value; end = at }) (scanned (enteredByte value byte) (at + 1) bytes)
 
--- a line of a 6250 reading has nine numbers or ten, or none
+-- a line of a 6250 reading has the numbers of a group and a map, or has no map, or is empty
+abbrev pub rowLength : ℕ
+rowLength = numbersPerGroup + 1
+
 unfoldable pub groupFault : Fault → ℕ → Fault
-groupFault Nothing numbers = cond (eqb numbers 0) Nothing (cond (eqb numbers 9) Nothing (cond (eqb numbers 10) Nothing NotAGroup))
+groupFault Nothing numbers = cond (eqb numbers 0) Nothing (cond (eqb numbers numbersPerGroup) Nothing (cond (eqb numbers rowLength) Nothing NotAGroup))
 groupFault NotANumber numbers = NotANumber
 groupFault TooLarge numbers = TooLarge
 groupFault NotAGroup numbers = NotAGroup

@@ -9,34 +9,51 @@ use marks::marks::group_marks;
 use marks::marks::refused_column;
 use reader6250::Figures;
 use reader6250::Read;
+use rectangular::Code6250;
 use streams::PAGE;
 use streams::Text;
 use streams::put;
 ghost use mathlib.Core.Path.{_≡_};
-ghost use Prim.Native.Nat.{_*_, _≤_, min};
+ghost use Prim.Native.Nat.{_+_, _*_, _≤_, min};
 ghost use lib.ListN.{length, take};
 ghost use Rattle.answer.specs.Answer.{outputAfter};
+ghost use Rattle.rectangular.specs.Constants.{numbersPerGroup, mostGroups};
 ghost use Rattle.record6250.specs.Read.{readAnswer, readData};
 ghost use Rattle.record6250.specs.Record.{writtenRecord};
 ghost use Rattle.reader6250.specs.Told.{toldRead};
 ghost use Rattle.record6250.specs.Written.{writeAnswer};
 
+// The words of the longest record.
+const RECORD: usize = Code6250::NUMBERS * Code6250::MOST_GROUPS;
+// One group more than a record has, so that longer readings are seen and refused.
+const GROUPS: usize = Code6250::MOST_GROUPS + 1;
+// The words of so many groups.
+const WORDS: usize = Code6250::NUMBERS * GROUPS;
+
 // Writes the record of data.
 pub(crate) fn write(page: &mut [u8; PAGE], bytes: &[u8]) -> Text {
-    let mut words = [0u16; 5274];
+    let mut words = [0u16; RECORD];
     match writer6250::write(bytes, &mut words) {
-        Written::Delivered(groups) => {
-            Text::Output(print::words(page, 0, &words, words_of(groups)))
-        }
+        Written::Delivered(groups) => Text::Output(print::words(
+            page,
+            0,
+            &words,
+            words_of(groups),
+            Code6250::NUMBERS,
+        )),
         Written::Refused(refusal) => Text::Output(print::refused(page, refusal)),
     }
 }
 
-// How many words so many groups have; no record has more than 586.
+// How many words so many groups of a record have.
 fn words_of(groups: usize) -> usize
-    ensures { λ r. ⌜ r ≡ min (groups * 9) 5274 ⌝ }
+    ensures { λ r. ⌜ r ≡ min (numbersPerGroup * groups) (numbersPerGroup * mostGroups) ⌝ }
 {
-    if groups > 586 { 5274 } else { groups * 9 }
+    if groups > Code6250::MOST_GROUPS {
+        RECORD
+    } else {
+        Code6250::NUMBERS * groups
+    }
 }
 
 // Reads the record whose reading is in a text.
@@ -44,16 +61,15 @@ pub(crate) fn read(page: &mut [u8; PAGE], text: &[u8], backward: bool) -> Text {
     if text.len() > 65535 {
         return print::too_long(page);
     }
-    // One group more than a record has, so that longer readings are seen and refused.
-    let mut words = [0u16; 5283];
-    let mut maps = [0u16; 587];
+    let mut words = [0u16; WORDS];
+    let mut maps = [0u16; GROUPS];
     let parsed = reading::groups(text, &mut words, &mut maps);
     let fault = parsed.fault;
     if !reading::is_whole(fault) {
         return print::fault(page, parsed);
     }
     let groups = parsed.stored;
-    let end = groups * 9;
+    let end = Code6250::NUMBERS * groups;
     Text::Output(show(page, &words[..end], &maps[..groups], backward))
 }
 
@@ -83,12 +99,12 @@ fn draw(
     held: usize,
     words: &[u16],
     maps: &[u16],
-    right: &[u16; 5283],
+    right: &[u16; WORDS],
     view: View,
 ) -> usize
-    requires { ⌜ (length (now words) ≡ 9 * length (now maps)) × (length (now maps) ≤ 587) ⌝ }
+    requires { ⌜ (length (now words) ≡ numbersPerGroup * length (now maps)) × (length (now maps) ≤ mostGroups + 1) ⌝ }
 {
-    let mut marks = [0u8; 5283];
+    let mut marks = [0u8; Code6250::TRACKS * GROUPS];
     group_marks(words, maps, right, view, &mut marks);
     picture::draw(page, held, &marks, maps.len(), maps.len(), true)
 }
@@ -103,14 +119,14 @@ fn show_delivered(
     output: &[u8],
     figures: Figures,
 ) -> usize
-    requires { ⌜ (length (now words) ≡ 9 * length (now maps)) × (length (now maps) ≤ 587) ⌝ }
+    requires { ⌜ (length (now words) ≡ numbersPerGroup * length (now maps)) × (length (now maps) ≤ mostGroups + 1) ⌝ }
 {
     let mut end = print::delivered(page);
     end = print::figure(page, end, figures.length);
     end = print::figure(page, end, figures.changes);
     end = print::newline(page, end);
     end = print::data(page, end, output, figures.length);
-    let mut right = [0u16; 5283];
+    let mut right = [0u16; WORDS];
     write_again(output, figures.length, &mut right);
     let place = maps.len();
     end = draw(
@@ -141,7 +157,7 @@ fn show_refused(
     backward: bool,
     refusal: Refusal,
 ) -> usize
-    requires { ⌜ (length (now words) ≡ 9 * length (now maps)) × (length (now maps) ≤ 587) ⌝ }
+    requires { ⌜ (length (now words) ≡ numbersPerGroup * length (now maps)) × (length (now maps) ≤ mostGroups + 1) ⌝ }
 {
     let mut end = print::refused(page, refusal);
     let reason = refusal.reason;
@@ -149,7 +165,7 @@ fn show_refused(
     if number < 3 {
         return end;
     }
-    let right = [0u16; 5283];
+    let right = [0u16; WORDS];
     let place = refused_column(number, refusal.place, maps.len());
     end = draw(
         page,
@@ -172,9 +188,9 @@ fn show_refused(
 
 // Reads the record and shows the answer, the data and the picture.
 fn show(page: &mut [u8; PAGE], words: &[u16], maps: &[u16], backward: bool) -> usize
-    requires { ⌜ (length (now words) ≡ 9 * length (now maps)) × (length (now maps) ≤ 587) ⌝ }
+    requires { ⌜ (length (now words) ≡ numbersPerGroup * length (now maps)) × (length (now maps) ≤ mostGroups + 1) ⌝ }
 {
-    let mut output = [0u8; 4102];
+    let mut output = [0u8; Code6250::MOST_BODY];
     match answered(words, maps, backward, &mut output) {
         Read::Delivered(figures) => {
             show_delivered(page, words, maps, backward, &output, figures)

@@ -9,6 +9,7 @@ use marks::marks::refused_column;
 use marks::marks::run_marks;
 use reader800::Figures;
 use reader800::Read;
+use rectangular::Code6250;
 use streams::PAGE;
 use streams::Text;
 use streams::put;
@@ -21,11 +22,22 @@ ghost use Rattle.record800.specs.Record.{writtenRecord};
 ghost use Rattle.reader800.specs.Told.{toldRead};
 ghost use Rattle.record800.specs.Written.{writeAnswer};
 
+// Characters are printed so many to a line.
+const LINE: usize = 9;
+// The runs of the longest reading.
+const COLUMNS: usize = 65;
+
 // Writes the record of data.
 pub(crate) fn write(page: &mut [u8; PAGE], bytes: &[u8]) -> Text {
     let mut characters = [0u16; 2050];
     match writer800::write(bytes, &mut characters) {
-        Written::Delivered(stored) => Text::Output(print::words(page, 0, &characters, stored)),
+        Written::Delivered(stored) => Text::Output(print::words(
+            page,
+            0,
+            &characters,
+            stored,
+            LINE,
+        )),
         Written::Refused(refusal) => Text::Output(print::refused(page, refusal)),
     }
 }
@@ -85,7 +97,7 @@ fn draw(
     requires { ⌜ length (now characters) ≤ 2051 ⌝ }
 {
     let columns = columns_of(characters.len());
-    let mut marks = [0u8; 585];
+    let mut marks = [0u8; Code6250::TRACKS * COLUMNS];
     run_marks(characters, right, view, columns, &mut marks);
     picture::draw(page, held, &marks, columns, characters.len(), false)
 }

@@ -2,13 +2,15 @@
 // at most 64 columns, in the forward order of the record.
 use crate::print::newline;
 use crate::print::number;
+use rectangular::Code6250;
 use streams::PAGE;
 use streams::put;
 ghost use mathlib.Core.List.{_++_};
 ghost use mathlib.Core.Path.{_≡_};
 ghost use Prim.Native.Nat.{_+_, _-_, _*_, _<_, _≤_, min};
 ghost use lib.ListN.{length, drop};
-ghost use Rattle.bench.specs.Picture.{rowOf, firstOf};
+ghost use Rattle.rectangular.specs.Constants.{tracks};
+ghost use Rattle.bench.specs.Picture.{rowOf, firstOf, mostColumns};
 
 fn least(a: usize, b: usize) -> usize
     ensures { λ r. ⌜ r ≡ min a b ⌝ }
@@ -18,12 +20,12 @@ fn least(a: usize, b: usize) -> usize
 
 // The marks of a track, from a column on, at the front of the row.
 fn gather(marks: &[u8], track: usize, from: usize, count: usize, row: &mut [u8])
-    requires { ⌜ (track < 9) × (9 * (from + count) ≤ length (now marks)) × (count ≤ length (now row)) ⌝ }
+    requires { ⌜ (track < tracks) × (tracks * (from + count) ≤ length (now marks)) × (count ≤ length (now row)) ⌝ }
     ensures { λ _. ⌜ now (row .exit) ≡ rowOf (now (marks .entry)) track from count ++ drop count (now (row .entry)) ⌝ }
 {
     let mut k = 0;
     while k < count {
-        row[k] = marks[9 * (from + k) + track];
+        row[k] = marks[Code6250::TRACKS * (from + k) + track];
         k += 1;
     }
 }
@@ -31,7 +33,7 @@ fn gather(marks: &[u8], track: usize, from: usize, count: usize, row: &mut [u8])
 // The label of a track, and a space.
 fn label(page: &mut [u8; PAGE], held: usize, track: usize, groups: bool) -> usize {
     if groups {
-        if track == 8 {
+        if track == Code6250::PARITY_TRACK {
             return put(page, held, b"P ");
         }
     }
@@ -47,7 +49,7 @@ fn put_row(
     from: usize,
     count: usize,
 ) -> usize
-    requires { ⌜ (track < 9) × (9 * (from + count) ≤ length (now marks)) × (count ≤ 64) ⌝ }
+    requires { ⌜ (track < tracks) × (tracks * (from + count) ≤ length (now marks)) × (count ≤ 64) ⌝ }
 {
     let mut row = [0u8; 64];
     gather(marks, track, from, count, &mut row);
@@ -76,11 +78,11 @@ fn put_rows(
     count: usize,
     groups: bool,
 ) -> usize
-    requires { ⌜ (9 * (from + count) ≤ length (now marks)) × (count ≤ 64) ⌝ }
+    requires { ⌜ (tracks * (from + count) ≤ length (now marks)) × (count ≤ 64) ⌝ }
 {
     let mut end = held;
     let mut track = 0;
-    while track < 9 {
+    while track < Code6250::TRACKS {
         end = label(page, end, track, groups);
         end = put_row(page, end, marks, track, from, count);
         track += 1;
@@ -99,7 +101,7 @@ fn block(left: usize) -> usize
 
 // The first group of a column, or the first character: a column of characters has 32.
 fn first_of(column: usize, groups: bool) -> usize
-    requires { ⌜ column ≤ 587 ⌝ }
+    requires { ⌜ column ≤ mostColumns ⌝ }
     ensures { λ r. ⌜ r ≡ firstOf groups column ⌝ }
 {
     if groups { column } else { 32 * column }
@@ -112,7 +114,7 @@ fn before(n: usize) -> usize
     if n == 0 { 0 } else { n - 1 }
 }
 
-// Puts the marks of so many columns, nine to a column, which show so many groups, or characters.
+// Puts the marks of so many columns, one for each track, which show so many groups, or characters.
 pub(crate) fn draw(
     page: &mut [u8; PAGE],
     held: usize,
@@ -121,7 +123,7 @@ pub(crate) fn draw(
     shown: usize,
     groups: bool,
 ) -> usize
-    requires { ⌜ (9 * columns ≤ length (now marks)) × (columns ≤ 587) ⌝ }
+    requires { ⌜ (tracks * columns ≤ length (now marks)) × (columns ≤ mostColumns) ⌝ }
 {
     let mut end = put(page, held, b"picture\n");
     let mut from = 0;

@@ -44,15 +44,23 @@ fn separate(page: &mut [u8; PAGE], held: usize, k: usize, width: usize) -> usize
     }
 }
 
-// The first values, nine to a line: at 6250 a group has nine words.
-pub(crate) fn words(page: &mut [u8; PAGE], held: usize, values: &[u16], count: usize) -> usize {
+// The first values, so many to a line.
+pub(crate) fn words(
+    page: &mut [u8; PAGE],
+    held: usize,
+    values: &[u16],
+    count: usize,
+    width: usize,
+) -> usize
+    requires { ⌜ 0 < width ⌝ }
+{
     let mut end = held;
     let mut k = 0;
     while k < values.len() {
         if k == count {
             break;
         }
-        end = separate(page, end, k, 9);
+        end = separate(page, end, k, width);
         end = word(page, end, values[k]);
         k += 1;
     }

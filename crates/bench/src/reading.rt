@@ -1,14 +1,19 @@
-// A reading out of its text: at 6250 a line for each group, nine words and a pointer map that may be left
+// A reading out of its text: at 6250 a line for each group, its words and a pointer map that may be left
 // out; at 800 characters, any number to a line. Empty lines are passed over. What the space does not hold
 // is read and dropped: the space is larger than the largest record, so the library refuses it by its length.
 use crate::text::Fault;
 use crate::text::line_at;
+use rectangular::Code6250;
 ghost use mathlib.Core.Path.{_≡_};
 ghost use Prim.Native.Nat.{_+_, _*_, _≤_, min};
 ghost use mathlib.Core.Bool.{cond};
 ghost use lib.ListN.{length, take, getD, set};
 ghost use lib.Seq.{sets};
-ghost use Rattle.bench.specs.Text.{groupFault, isStored, isWhole};
+ghost use Rattle.rectangular.specs.Constants.{numbersPerGroup};
+ghost use Rattle.bench.specs.Text.{rowLength, groupFault, isStored, isWhole};
+
+// The numbers of a group, and its map.
+const ROW: usize = Code6250::NUMBERS + 1;
 
 // What came of a text: what is wrong with it, the line where it was seen, how many numbers that line has,
 // and how many groups or characters are stored.
@@ -19,7 +24,7 @@ pub(crate) struct Parsed {
     pub stored: usize,
 }
 
-// A line of a 6250 reading has nine numbers or ten, or none.
+// A line of a 6250 reading has the numbers of a group, with a map or without, or none.
 fn group_fault(fault: Fault, numbers: usize) -> Fault
     ensures { λ r. ⌜ r ≡ groupFault fault numbers ⌝ }
 {
@@ -31,10 +36,10 @@ fn group_fault(fault: Fault, numbers: usize) -> Fault
             if numbers == 0 {
                 return Fault::Nothing;
             }
-            if numbers == 9 {
+            if numbers == Code6250::NUMBERS {
                 return Fault::Nothing;
             }
-            if numbers == 10 {
+            if numbers == ROW {
                 return Fault::Nothing;
             }
             Fault::NotAGroup
@@ -54,13 +59,13 @@ pub(crate) fn is_whole(fault: Fault) -> bool
     }
 }
 
-// Stores the nine words of a line from an index on.
+// Stores the words of a line from an index on.
 fn copy_words(row: &[u16], at: usize, words: &mut [u16])
-    requires { ⌜ (length (now row) ≡ 10) × (at + 9 ≤ length (now words)) ⌝ }
-    ensures { λ _. ⌜ now (words .exit) ≡ sets (now (words .entry)) at (take 9 (now (row .entry))) ⌝ }
+    requires { ⌜ (length (now row) ≡ rowLength) × (at + numbersPerGroup ≤ length (now words)) ⌝ }
+    ensures { λ _. ⌜ now (words .exit) ≡ sets (now (words .entry)) at (take numbersPerGroup (now (row .entry))) ⌝ }
 {
     let mut k = 0;
-    while k < 9 {
+    while k < Code6250::NUMBERS {
         words[at + k] = row[k];
         k += 1;
     }
@@ -74,10 +79,10 @@ fn store_group(
     words: &mut [u16],
     maps: &mut [u16],
 ) -> usize
-    requires { ⌜ (length (now row) ≡ 10) × (stored ≤ length (now maps)) × (9 * length (now maps) ≤ length (now words)) ⌝ }
+    requires { ⌜ (length (now row) ≡ rowLength) × (stored ≤ length (now maps)) × (numbersPerGroup * length (now maps) ≤ length (now words)) ⌝ }
     ensures stored { λ r. ⌜ r ≡ cond (isStored numbers stored (length (now (maps .entry)))) (stored + 1) stored ⌝ }
-    ensures words { λ _. ⌜ now (words .exit) ≡ cond (isStored numbers stored (length (now (maps .entry)))) (sets (now (words .entry)) (9 * stored) (take 9 (now (row .entry)))) (now (words .entry)) ⌝ }
-    ensures maps { λ _. ⌜ now (maps .exit) ≡ cond (isStored numbers stored (length (now (maps .entry)))) (set (now (maps .entry)) stored (getD (now (row .entry)) 9 0)) (now (maps .entry)) ⌝ }
+    ensures words { λ _. ⌜ now (words .exit) ≡ cond (isStored numbers stored (length (now (maps .entry)))) (sets (now (words .entry)) (numbersPerGroup * stored) (take numbersPerGroup (now (row .entry)))) (now (words .entry)) ⌝ }
+    ensures maps { λ _. ⌜ now (maps .exit) ≡ cond (isStored numbers stored (length (now (maps .entry)))) (set (now (maps .entry)) stored (getD (now (row .entry)) numbersPerGroup 0)) (now (maps .entry)) ⌝ }
     ensures within { λ r. ⌜ (r ≤ length (now (maps .entry))) × (length (now (words .exit)) ≡ length (now (words .entry))) × (length (now (maps .exit)) ≡ length (now (maps .entry))) ⌝ }
 {
     if numbers == 0 {
@@ -86,14 +91,14 @@ fn store_group(
     if stored == maps.len() {
         return stored;
     }
-    copy_words(row, 9 * stored, words);
-    maps[stored] = row[9];
+    copy_words(row, Code6250::NUMBERS * stored, words);
+    maps[stored] = row[Code6250::NUMBERS];
     stored + 1
 }
 
 // Reads the groups of a text.
 pub(crate) fn groups(text: &[u8], words: &mut [u16], maps: &mut [u16]) -> Parsed
-    requires { ⌜ 9 * length (now maps) ≤ length (now words) ⌝ }
+    requires { ⌜ numbersPerGroup * length (now maps) ≤ length (now words) ⌝ }
     ensures stored { λ r. ⌜ r .stored ≤ length (now (maps .entry)) ⌝ }
     ensures words { λ _. ⌜ length (now (words .exit)) ≡ length (now (words .entry)) ⌝ }
     ensures maps { λ _. ⌜ length (now (maps .exit)) ≡ length (now (maps .entry)) ⌝ }
@@ -102,7 +107,7 @@ pub(crate) fn groups(text: &[u8], words: &mut [u16], maps: &mut [u16]) -> Parsed
     let mut line = 1;
     let mut at = 0;
     while at <= text.len() {
-        let mut row = [0u16; 10];
+        let mut row = [0u16; ROW];
         let found = line_at(text, at, &mut row);
         let numbers = found.count;
         let seen = found.fault;

@@ -7,6 +7,7 @@ use native.Mathlib.Omega.{arith}
 use lib.ListN.{length, drop, getD, List·getD-append}
 use Rattle.answer.specs.Answer.{Answer, delivered, numberOf, toldWritten, outputAfter}
 use Rattle.answer.specs.declared.Refusal.{Refusal}
+use Rattle.rectangular.specs.Constants.{numbersPerGroup}
 use Rattle.record6250.specs.Record.{writtenRecord, groupsFor}
 use Rattle.record6250.specs.Written.{writeAnswer}
 use Rattle.record6250.proofs.Answer.{written-passed}
@@ -17,19 +18,19 @@ use Rattle.streams.specs.Message.{unreadText}
 use Rattle.streams.specs.Ended.{Prints, Tells}
 use Rattle.streams.specs.declared.Text.{Text}
 use Rattle.streams.specs.declared.Text.the-variants.{Output, Message}
-use Rattle.listing.specs.Listing.{recordText, refusalText, answerText, listingText, Listed}
+use Rattle.listing.specs.Listing.{recordText, refusalText, answerText, listingText, mostWords, Listed}
 use Rattle.listing.proofs.Lines.{record-same}
 
-module _ (bytes : List ℕ) (r : Written) (told : toldWritten r ≡ writeAnswer (length bytes) 5274) where
+module _ (bytes : List ℕ) (r : Written) (told : toldWritten r ≡ writeAnswer (length bytes) mostWords) where
   module _ (groups : ℕ) (e : r ≡ Delivered groups) where
-    answered : writeAnswer (length bytes) 5274 ≡ delivered (groups ∷ [])
+    answered : writeAnswer (length bytes) mostWords ≡ delivered (groups ∷ [])
     answered = sym told ∙ ap toldWritten e
 
     many : groups ≡ groupsFor (length bytes)
-    many = let same = written-passed (length bytes) 5274 (groups ∷ []) answered .0 in cc
+    many = let same = written-passed (length bytes) mostWords (groups ∷ []) answered .0 in cc
 
-    pub enough : 9 * groups ≤ 5274
-    enough = omega (arith, many, written-passed (length bytes) 5274 (groups ∷ []) answered .1)
+    pub enough : numbersPerGroup * groups ≤ mostWords
+    enough = omega (arith, many, written-passed (length bytes) mostWords (groups ∷ []) answered .1)
 
     pub delivered-text : (before after : List ℕ) → after ≡ outputAfter (toldWritten r) (writtenRecord bytes) before → recordText after groups ≡ listingText bytes
     unfolding outputAfter

@@ -8,6 +8,7 @@ use native.Mathlib.Omega.{arith}
 use lib.ListN.{getD}
 use Rattle.indexed.specs.List.{blocks}
 use Rattle.indexed.proofs.Blocks.{blocks-same}
+use Rattle.rectangular.specs.Constants.{numbersPerGroup}
 use Rattle.streams.specs.Ascii.{ascii}
 use Rattle.streams.specs.Page.{Printed}
 use Rattle.streams.proofs.Printed.{printed-none, printed-both}
@@ -28,7 +29,7 @@ module _ (words : List ℕ) (at : ℕ) where
   words-more n t u = rw (blocks-suc n (λ m. wordText m (getD words (at + m) 0))) (printed-both t u)
 
   -- the line, with its end
-  pub words-all : (n : ℕ) {p q r : List ℕ} {h i j : ℕ} → n ≡ 9 → Printed (wordsText words at n) p h q i → Printed (ascii "\n") q i r j → Printed (groupText words at) p h r j
+  pub words-all : (n : ℕ) {p q r : List ℕ} {h i j : ℕ} → n ≡ numbersPerGroup → Printed (wordsText words at n) p h q i → Printed (ascii "\n") q i r j → Printed (groupText words at) p h r j
   words-all n {p} {q} {r} {h} {i} {j} e t u = printed-both (subst (λ (m : ℕ). Printed (wordsText words at m) p h q i) e t) u
 
 -- no group, and one more
@@ -36,12 +37,12 @@ pub groups-none : (words page : List ℕ) (held : ℕ) → Printed (recordText w
 unfolding blocks
 groups-none words page held = printed-none page held
 
-pub groups-more : (words : List ℕ) (g : ℕ) {p q r : List ℕ} {i j : ℕ} → Printed (recordText words g) p 0 q i → Printed (groupText words (9 * g)) q i r j → Printed (recordText words (g + 1)) p 0 r j
-groups-more words g t u = rw (blocks-suc g (λ n. groupText words (9 * n))) (printed-both t u)
+pub groups-more : (words : List ℕ) (g : ℕ) {p q r : List ℕ} {i j : ℕ} → Printed (recordText words g) p 0 q i → Printed (groupText words (numbersPerGroup * g)) q i r j → Printed (recordText words (g + 1)) p 0 r j
+groups-more words g t u = rw (blocks-suc g (λ n. groupText words (numbersPerGroup * n))) (printed-both t u)
 
 -- the text of a record is that of its words
-pub record-same : (groups : ℕ) (words others : List ℕ) → ((k : ℕ) → k < 9 * groups → getD words k 0 ≡ getD others k 0) → recordText words groups ≡ recordText others groups
+pub record-same : (groups : ℕ) (words others : List ℕ) → ((k : ℕ) → k < numbersPerGroup * groups → getD words k 0 ≡ getD others k 0) → recordText words groups ≡ recordText others groups
 record-same groups words others same =
-    blocks-same groups (λ g. groupText words (9 * g)) (λ g. groupText others (9 * g)) (λ g b.
-    ap (λ (t : List ℕ). t ++ ascii "\n") (blocks-same 9 (λ j. wordText j (getD words (9 * g + j) 0)) (λ j. wordText j (getD others (9 * g + j) 0))
-    (λ j c. ap (wordText j) (same (9 * g + j) (omega arith)))))
+    blocks-same groups (λ g. groupText words (numbersPerGroup * g)) (λ g. groupText others (numbersPerGroup * g)) (λ g b.
+    ap (λ (t : List ℕ). t ++ ascii "\n") (blocks-same numbersPerGroup (λ j. wordText j (getD words (numbersPerGroup * g + j) 0)) (λ j. wordText j (getD others (numbersPerGroup * g + j) 0))
+    (λ j c. ap (wordText j) (same (numbersPerGroup * g + j) (omega arith)))))

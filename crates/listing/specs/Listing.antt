@@ -8,6 +8,7 @@ use lib.Dec.{eqb}
 use lib.ListN.{length, getD}
 use Rattle.answer.specs.Answer.{Answer, delivered, refused}
 use Rattle.indexed.specs.List.{blocks}
+use Rattle.rectangular.specs.Constants.{numbersPerGroup, mostGroups}
 use Rattle.record6250.specs.Record.{writtenRecord}
 use Rattle.record6250.specs.Written.{writeAnswer}
 use Rattle.streams.specs.Ascii.{ascii}
@@ -26,10 +27,10 @@ wordsText words at count = blocks count (λ j. wordText j (getD words (at + j) 0
 
 -- the line of the group at an index
 abbrev pub groupText : List ℕ → ℕ → List ℕ
-groupText words at = wordsText words at 9 ++ ascii "\n"
+groupText words at = wordsText words at numbersPerGroup ++ ascii "\n"
 
 abbrev pub recordText : List ℕ → ℕ → List ℕ
-recordText words groups = blocks groups (λ g. groupText words (9 * g))
+recordText words groups = blocks groups (λ g. groupText words (numbersPerGroup * g))
 
 abbrev pub refusalText : ℕ → ℕ → List ℕ
 refusalText number place = ascii "refused " ++ decimalText number ++ ascii " " ++ decimalText place ++ ascii "\n"
@@ -39,9 +40,13 @@ answerText words (delivered []) = []
 answerText words (delivered (groups ∷ figures)) = recordText words groups
 answerText words (refused number place) = refusalText number place
 
+-- the words of the longest record
+abbrev pub mostWords : ℕ
+mostWords = numbersPerGroup * mostGroups
+
 -- the listing of data: there is space for the longest record
 abbrev pub listingText : List ℕ → List ℕ
-listingText bytes = answerText (writtenRecord bytes) (writeAnswer (length bytes) 5274)
+listingText bytes = answerText (writtenRecord bytes) (writeAnswer (length bytes) mostWords)
 
 -- what is put on a page: the listing of data, and nothing else, for standard output; or why there are none, for standard error
 abbrev pub Listed : List ℕ → List ℕ → Text → Type 0

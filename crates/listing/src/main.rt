@@ -1,7 +1,8 @@
 // The listing program (document 01, "Bench readings"): reads data from standard input and prints the
-// words of the 6250 record that is written from them, a line of nine for each group; or the refusal.
+// words of the 6250 record that is written from them, a line for each group; or the refusal.
 use answer::Refusal;
 use answer::Written;
+use rectangular::Code6250;
 use streams::Ended;
 use streams::PAGE;
 use streams::Text;
@@ -10,6 +11,7 @@ use streams::put;
 ghost use Prim.Native.Nat.{_+_, _*_, _≤_};
 ghost use lib.ListN.{length};
 ghost use Rattle.answer.specs.Answer.{numberOf};
+ghost use Rattle.rectangular.specs.Constants.{numbersPerGroup};
 ghost use Rattle.streams.specs.Page.{Printed};
 ghost use Rattle.streams.specs.Ended.{Prints};
 ghost use Rattle.listing.specs.Listing.{wordText, groupText, recordText, refusalText, listingText, Listed};
@@ -25,14 +27,14 @@ fn put_word(page: &mut [u8; PAGE], held: usize, j: usize, word: u16) -> usize
     decimal(page, spaced, word as u64)
 }
 
-// Puts the nine words from an index on, and a newline.
+// Puts the words of a group from an index on, and a newline.
 fn put_group(page: &mut [u8; PAGE], held: usize, words: &[u16], at: usize) -> usize
-    requires { ⌜ at + 9 ≤ length (now words) ⌝ }
+    requires { ⌜ at + numbersPerGroup ≤ length (now words) ⌝ }
     ensures { λ r. ⌜ Printed (groupText (now (words .entry)) at) (now (page .entry)) held (now (page .exit)) r ⌝ }
 {
     let mut end = held;
     let mut j = 0;
-    while j < 9 {
+    while j < Code6250::NUMBERS {
         end = put_word(page, end, j, words[at + j]);
         j += 1;
     }
@@ -41,13 +43,13 @@ fn put_group(page: &mut [u8; PAGE], held: usize, words: &[u16], at: usize) -> us
 
 // Puts the first groups.
 fn put_groups(page: &mut [u8; PAGE], words: &[u16], groups: usize) -> usize
-    requires { ⌜ 9 * groups ≤ length (now words) ⌝ }
+    requires { ⌜ numbersPerGroup * groups ≤ length (now words) ⌝ }
     ensures { λ r. ⌜ Printed (recordText (now (words .entry)) groups) (now (page .entry)) 0 (now (page .exit)) r ⌝ }
 {
     let mut end = 0;
     let mut g = 0;
     while g < groups {
-        end = put_group(page, end, words, 9 * g);
+        end = put_group(page, end, words, Code6250::NUMBERS * g);
         g += 1;
     }
     end
@@ -68,7 +70,7 @@ fn put_refusal(page: &mut [u8; PAGE], refusal: Refusal) -> usize
 fn listing(page: &mut [u8; PAGE], bytes: &[u8]) -> Text
     ensures { λ r. ⌜ Prints (listingText (now (bytes .entry))) (now (page .entry)) (now (page .exit)) r ⌝ }
 {
-    let mut words = [0u16; 5274];
+    let mut words = [0u16; Code6250::NUMBERS * Code6250::MOST_GROUPS];
     match writer6250::write(bytes, &mut words) {
         Written::Delivered(groups) => Text::Output(put_groups(page, &words, groups)),
         Written::Refused(refusal) => Text::Output(put_refusal(page, refusal)),
@@ -80,7 +82,7 @@ fn listed(page: &mut [u8; PAGE]) -> Text
     ensures { λ r. ⌜ Listed (now (page .entry)) (now (page .exit)) r ⌝ }
 {
     // One byte more than a record holds, so that longer data are seen and refused.
-    let mut bytes = [0u8; 4102];
+    let mut bytes = [0u8; Code6250::MOST_DATA + 1];
     match streams::read(&mut bytes) {
         Ended::After(count) => listing(page, &bytes[..count]),
         Ended::Failed(number) => streams::unread(page, number),

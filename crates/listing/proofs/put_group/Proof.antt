@@ -3,6 +3,7 @@
 use Prim.Native.Nat.{_-_, _≤_}
 use mathlib.Core.Path.{_≡_}
 use native.Mathlib.Omega.{arith}
+use Rattle.rectangular.specs.Constants.{numbersPerGroup}
 use Rattle.streams.specs.Page.{Printed}
 use Rattle.listing.specs.Listing.{wordsText}
 use Rattle.listing.proofs.Lines.{words-none, words-more, words-all}
@@ -11,10 +12,10 @@ use Rattle.listing.proofs.put_group.Statement.{statement}
 use Rattle.listing.proofs.put_group.Tie as tie
 
 abbrev Inv-loop : tie.InvT-loop
-Inv-loop page₀ held words at end₀ j₀ t7 page end j = (j ≤ 9) × Printed (wordsText words at j) page₀ held page end
+Inv-loop page₀ held words at end₀ j₀ t7 page end j = (j ≤ numbersPerGroup) × Printed (wordsText words at j) page₀ held page end
 
 abbrev μ-loop : tie.MeasureT-loop
-μ-loop page₀ held words at end₀ j₀ t7 page end j = 9 - j
+μ-loop page₀ held words at end₀ j₀ t7 page end j = numbersPerGroup - j
 
 loop-holds : tie.Need-loop-holds Inv-loop μ-loop
 loop-holds c = let args = c .before .args in (omega arith, words-none (args .words .now) (args .at) _ _)
@@ -54,7 +55,7 @@ returns c =
     let at = c .before .before .before .before in
     let l = at .loop in
     let args = at .before .before .args in
-    let all : l .j ≡ 9 = omega (arith, l .inv .0) in
+    let all : l .j ≡ numbersPerGroup = omega (arith, l .inv .0) in
     words-all (args .words .now) (args .at) (l .j) all (l .inv .1) (c .put .ensures .0)
 
 pub put-group-spec : {M : Type 1} → statement M

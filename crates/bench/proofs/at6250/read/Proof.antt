@@ -1,11 +1,12 @@
 -- `bench::at6250::read` is safe: the groups that are shown are stored.
 -- Assumes nothing.
-use Prim.Native.Nat.{_*_, _≤_}
+use Prim.Native.Nat.{_+_, _*_, _≤_}
 use mathlib.Core.Path.{_≡_, sym}
 use native.Mathlib.Omega.{arith}
 use lib.ListN.{length, take}
 use lib.Seq.{length-take-le}
 use borrow.Author.Needs.{needs}
+use Rattle.rectangular.specs.Constants.{numbersPerGroup, mostGroups}
 use Rattle.bench.proofs.at6250.read.Statement.{statement}
 use Rattle.bench.proofs.at6250.read.Tie as tie
 
@@ -51,8 +52,8 @@ slice-aggregate-show-2 c = sym (length-take-le _ _ (search needs))
 show-requires : tie.Need-show-requires
 show-requires c κs =
     let stored = c .before .before .before .before .before .before .before .groups in
-    let most : stored .result .stored ≤ 587 = stored .ensures .0 in
-    let words : length (take (stored .result .stored * 9) (stored .last .1 .0)) ≡ stored .result .stored * 9 = length-take-le _ _ (search needs) in
+    let most : stored .result .stored ≤ mostGroups + 1 = stored .ensures .0 in
+    let words : length (take (numbersPerGroup * stored .result .stored) (stored .last .1 .0)) ≡ numbersPerGroup * stored .result .stored = length-take-le _ _ (search needs) in
     let maps : length (take (stored .result .stored) (stored .last .1 .1 .0)) ≡ stored .result .stored = length-take-le _ _ (search needs) in
     (omega arith, omega arith)
 

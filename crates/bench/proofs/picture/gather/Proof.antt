@@ -6,6 +6,7 @@ use native.Mathlib.Omega.{arith}
 use borrow.Author.Needs.{needs}
 use lib.ListN.{length, getD, length-set}
 use Rattle.indexed.proofs.Front.{front}
+use Rattle.rectangular.specs.Constants.{tracks}
 use Rattle.bench.specs.Picture.{rowOf}
 use Rattle.indexed.proofs.Front.{filled-more, filled-all}
 use Rattle.bench.proofs.picture.gather.Statement.{statement}
@@ -49,7 +50,7 @@ loop-again c =
     let args = c .before .before .before .args in (
       search needs,
       length-set (l .row) (l .k) _ ∙ l .inv .1,
-      filled-more (args .count) (λ j. getD (args .marks .now) (9 * (args .from + j) + args .track) 0) (args .row .now) (l .row) (l .k) _ (l .inv .2) refl
+      filled-more (args .count) (λ j. getD (args .marks .now) (tracks * (args .from + j) + args .track) 0) (args .row .now) (l .row) (l .k) _ (l .inv .2) refl
           (c .before .loop-test .taken) (omega arith),
     )
 
@@ -61,7 +62,7 @@ unfolding rowOf
 returns c =
     let l = c .before .loop in
     let args = c .before .before .args in
-    filled-all (args .count) (λ j. getD (args .marks .now) (9 * (args .from + j) + args .track) 0) (args .row .now) (l .row) (l .k) (l .inv .2) (omega arith)
+    filled-all (args .count) (λ j. getD (args .marks .now) (tracks * (args .from + j) + args .track) 0) (args .row .now) (l .row) (l .k) (l .inv .2) (omega arith)
 
 pub gather-spec : {M : Type 1} → statement M
 gather-spec =

@@ -1,15 +1,16 @@
--- `bench::picture::put_rows` is safe and ends: nine tracks.
+-- `bench::picture::put_rows` is safe and ends: there are so many tracks.
 -- Assumes nothing.
 use Prim.Native.Nat.{_-_, _≤_}
 use borrow.Author.Needs.{needs}
+use Rattle.rectangular.specs.Constants.{tracks}
 use Rattle.bench.proofs.picture.put_rows.Statement.{statement}
 use Rattle.bench.proofs.picture.put_rows.Tie as tie
 
 abbrev Inv-loop : tie.InvT-loop
-Inv-loop page₀ held marks from count groups end₀ track₀ page end track = track ≤ 9
+Inv-loop page₀ held marks from count groups end₀ track₀ page end track = track ≤ tracks
 
 abbrev μ-loop : tie.MeasureT-loop
-μ-loop page₀ held marks from count groups end₀ track₀ page end track = 9 - track
+μ-loop page₀ held marks from count groups end₀ track₀ page end track = tracks - track
 
 loop-holds : tie.Need-loop-holds Inv-loop μ-loop
 loop-holds c = search needs

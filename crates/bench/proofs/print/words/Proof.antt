@@ -7,10 +7,10 @@ use Rattle.bench.proofs.print.words.Statement.{statement}
 use Rattle.bench.proofs.print.words.Tie as tie
 
 abbrev Inv-loop : tie.InvT-loop
-Inv-loop page₀ held values count end₀ k₀ page end k = k ≤ length values
+Inv-loop page₀ held values count width end₀ k₀ page end k = k ≤ length values
 
 abbrev μ-loop : tie.MeasureT-loop
-μ-loop page₀ held values count end₀ k₀ page end k = length values - k
+μ-loop page₀ held values count width end₀ k₀ page end k = length values - k
 
 loop-holds : tie.Need-loop-holds Inv-loop μ-loop
 loop-holds c = search needs

@@ -7,14 +7,15 @@ use borrow.Author.Needs.{needs}
 use lib.ListN.{length, take, length-set}
 use lib.Seq.{sets}
 use Rattle.indexed.proofs.Stores.{sets-taken}
+use Rattle.rectangular.specs.Constants.{numbersPerGroup}
 use Rattle.bench.proofs.reading.copy_words.Statement.{statement}
 use Rattle.bench.proofs.reading.copy_words.Tie as tie
 
 abbrev Inv-loop : tie.InvT-loop
-Inv-loop row at words₀ k₀ words k = (k ≤ 9) × (length words ≡ length words₀) × (words ≡ sets words₀ at (take k row))
+Inv-loop row at words₀ k₀ words k = (k ≤ numbersPerGroup) × (length words ≡ length words₀) × (words ≡ sets words₀ at (take k row))
 
 abbrev μ-loop : tie.MeasureT-loop
-μ-loop row at words₀ k₀ words k = 9 - k
+μ-loop row at words₀ k₀ words k = numbersPerGroup - k
 
 loop-holds : tie.Need-loop-holds Inv-loop μ-loop
 loop-holds c = (search needs, refl, refl)
@@ -56,7 +57,7 @@ returns : tie.Need-returns Inv-loop μ-loop
 returns c =
     let l = c .before .loop in
     let args = c .before .before .args in
-    let all : l .k ≡ 9 = omega arith in
+    let all : l .k ≡ numbersPerGroup = omega arith in
     l .inv .2 ∙ ap (λ (j : ℕ). sets (args .words .now) (args .at) (take j (args .row .now))) all
 
 pub copy-words-spec : {M : Type 1} → statement M

@@ -6,6 +6,7 @@ use borrow.Author.Tests.{eq-eqb, ne-eqb}
 use borrow.Author.Needs.{needs}
 use lib.ListN.{length, take, getD, length-set}
 use lib.Seq.{length-sets}
+use Rattle.rectangular.specs.Constants.{numbersPerGroup}
 use Rattle.bench.proofs.reading.store_group.Statement.{statement}
 use Rattle.bench.proofs.reading.store_group.Tie as tie
 
@@ -45,8 +46,8 @@ returns-3 c =
     let room = c .before .before .before .before .before in
     let args = room .before .before .before .before .before .args in
     let words : length (copied .last .1 .1 .0) ≡ length (args .words .now) =
-    ap length (copied .ensures) ∙ length-sets (args .words .now) (9 * args .stored) (take 9 (args .row .now)) in
-    let maps = length-set (args .maps .now) (args .stored) (getD (args .row .now) 9 0) in
+    ap length (copied .ensures) ∙ length-sets (args .words .now) (numbersPerGroup * args .stored) (take numbersPerGroup (args .row .now)) in
+    let maps = length-set (args .maps .now) (args .stored) (getD (args .row .now) numbersPerGroup 0) in
     let within : args .stored + 1 ≤ length (args .maps .now) = search needs in
     simp (ne-eqb _ _ (room .before .if1 .left), ne-eqb _ _ (room .if2 .left)) (refl, (copied .ensures, (refl, (within, words, maps))))
 
