@@ -12,7 +12,7 @@ ghost use mathlib.Core.Path.{_≡_};
 ghost use Prim.Native.Nat.{_+_, _*_, _<_, _≤_};
 ghost use lib.ListN.{length, drop};
 ghost use Rattle.rectangular.specs.Constants.{tracks, numbersPerGroup};
-ghost use Rattle.marks.specs.Marks.{markOf, isPointed, isIllegal, isChanged, groupMark, groupMarks, runLength, runRight, runMark, runMarks, refusedColumn};
+ghost use Rattle.marks.specs.Marks.{markOf, isPointed, isIllegal, isChanged, groupMark, groupMarks, runLength, characterRight, runRight, runMark, runMarks, refusedColumn};
 
 // What is shown: which way the record passed the head, whether it was delivered, and the refused column;
 // a place behind the last column is none.
@@ -129,6 +129,21 @@ fn run_length(count: usize, from: usize) -> usize
     if count - from < 32 { count - from } else { 32 }
 }
 
+// Whether a track of a character is as it was delivered.
+fn character_right(
+    characters: &[u16],
+    right: &[u16],
+    backward: bool,
+    track: usize,
+    k: usize,
+) -> bool
+    requires { ⌜ (k < length (now characters)) × (length (now characters) ≤ length (now right)) × (track < tracks) ⌝ }
+    ensures { λ r. ⌜ r ≡ characterRight backward (now (characters .entry)) (now (right .entry)) track k ⌝ }
+{
+    let at = turned_place(backward, characters.len(), k);
+    bit_of(characters[at], track) == bit_of(right[k], track)
+}
+
 // Whether a track is as it was delivered in every character of the run that begins at an index.
 fn run_right(characters: &[u16], right: &[u16], backward: bool, track: usize, from: usize) -> bool
     requires { ⌜ (from ≤ length (now characters)) × (length (now characters) ≤ length (now right)) × (track < tracks) ⌝ }
@@ -137,9 +152,7 @@ fn run_right(characters: &[u16], right: &[u16], backward: bool, track: usize, fr
     let count = run_length(characters.len(), from);
     let mut k = 0;
     while k < count {
-        let at = turned_place(backward, characters.len(), from + k);
-        let read = bit_of(characters[at], track);
-        if read != bit_of(right[from + k], track) {
+        if !character_right(characters, right, backward, track, from + k) {
             return false;
         }
         k += 1;

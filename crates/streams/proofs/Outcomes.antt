@@ -13,7 +13,7 @@ use mir.Syntax.{Width}
 use mir.Val.{SFits, Fits, bits, hbits, toZ, ofZ}
 use mir.Facts.{toZ-ofZ}
 use Rattle.libc.specs.Io.{Moved}
-use Rattle.streams.specs.Moved.{errorNumber, movedBy, failedBy, Within}
+use Rattle.streams.specs.Moved.{errorNumber, movedBy, failedBy, Came, Within}
 use Rattle.streams.specs.declared.moved.Moved as Declared
 use Rattle.streams.specs.declared.moved.Moved.the-variants.{Bytes, Nothing, Interrupted, Failed}
 
@@ -80,5 +80,5 @@ module _ (w : Width) (z : ℤ) (h : SFits w z) where
   none-moved error = rw (toZ-ofZ h) (moved-none z error)
 
   -- and it moved no more than it was lent
-  pub moved-within : (error : ℤ) (n : ℕ) (came : Declared.Moved) → Moved n z → came ≡ movedBy (toZ w (ofZ w z)) error → Within came n
-  moved-within error n came lent e = rw (e, toZ-ofZ h) (within z error n lent)
+  pub moved-within : (n : ℕ) (moved : Declared.Moved) → Moved n z → Came (toZ w (ofZ w z)) moved → Within moved n
+  moved-within n moved lent (error, e) = rw (e, toZ-ofZ h) (within z error n lent)

@@ -1,6 +1,7 @@
 -- What came of one call of C's `read` or `write`, by its answer and by errno.
 -- Assumes nothing.
 use Prim.Native.Nat.{ℕ, zero, suc, _<_, _≤_}
+use mathlib.Core.Path.{_≡_}
 use mathlib.Core.Bool.{Bool, true, false, cond}
 use lib.Dec.{eqb}
 use lib.IntN.{ℤ, pos, negsuc}
@@ -26,6 +27,10 @@ abbrev pub movedBy : ℤ → ℤ → Moved
 movedBy (pos zero) error = Nothing
 movedBy (pos (suc n)) error = Bytes (suc n)
 movedBy (negsuc n) error = failedBy (errorNumber error)
+
+-- what came of a call that gave this answer, by errno, of which no contract tells what it was
+abbrev pub Came : ℤ → Moved → Type 0
+Came answer moved = (error : ℤ) × (moved ≡ movedBy answer error)
 
 abbrev pub isInterrupted : Moved → Bool
 isInterrupted (Bytes n) = false

@@ -1,7 +1,7 @@
 // What came of one call of C's `read` or `write`.
 use crate::Ended;
 ghost use mathlib.Core.Path.{_≡_};
-ghost use Rattle.streams.specs.Moved.{errorNumber, failedBy, movedBy, isInterrupted, endedBy};
+ghost use Rattle.streams.specs.Moved.{errorNumber, failedBy, movedBy, Came, isInterrupted, endedBy};
 
 // So many bytes were moved; none was, which for a read is the end of the input; a signal came first, and the call is to
 // be made again; or it failed, with the number of the error.
@@ -41,7 +41,7 @@ fn failed(number: u32) -> Moved
 }
 
 // C answers how many bytes it moved, or -1, and then errno tells why.
-pub(crate) fn outcome(answer: isize, error: i32) -> Moved
+fn outcome(answer: isize, error: i32) -> Moved
     ensures { λ r. ⌜ r ≡ movedBy answer error ⌝ }
 {
     if answer > 0 {
@@ -51,6 +51,13 @@ pub(crate) fn outcome(answer: isize, error: i32) -> Moved
         return failed(error_number(error));
     }
     Moved::Nothing
+}
+
+// What came of the last call of C's, which gave this answer.
+pub(crate) fn came(answer: isize) -> Moved
+    ensures { λ r. ⌜ Came answer r ⌝ }
+{
+    outcome(answer, os::errno())
 }
 
 pub(crate) fn is_interrupted(moved: Moved) -> bool

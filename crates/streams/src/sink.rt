@@ -4,10 +4,10 @@ use crate::Text;
 use crate::message::unwritten;
 use crate::moved::Moved;
 use crate::moved::TRIES;
+use crate::moved::came;
 use crate::moved::end;
 use crate::moved::is_interrupted;
 use crate::moved::last_error;
-use crate::moved::outcome;
 use crate::page::PAGE;
 use libc::SEEK_CUR;
 use libc::STDERR_FILENO;
@@ -23,10 +23,9 @@ fn write_some(fd: i32, bytes: &[u8]) -> Moved
 {
     let mut tries = TRIES;
     while tries > 0 {
-        let answer = libc::write(fd, bytes);
-        let came = outcome(answer, os::errno());
-        if !is_interrupted(came) {
-            return came;
+        let moved = came(libc::write(fd, bytes));
+        if !is_interrupted(moved) {
+            return moved;
         }
         tries -= 1;
     }

@@ -2,9 +2,9 @@
 use crate::Ended;
 use crate::moved::Moved;
 use crate::moved::TRIES;
+use crate::moved::came;
 use crate::moved::end;
 use crate::moved::is_interrupted;
-use crate::moved::outcome;
 use libc::STDIN_FILENO;
 ghost use lib.ListN.{length};
 ghost use Rattle.streams.specs.Moved.{Within};
@@ -16,10 +16,9 @@ fn read_some(space: &mut [u8]) -> Moved
 {
     let mut tries = TRIES;
     while tries > 0 {
-        let answer = libc::read(STDIN_FILENO, space);
-        let came = outcome(answer, os::errno());
-        if !is_interrupted(came) {
-            return came;
+        let moved = came(libc::read(STDIN_FILENO, space));
+        if !is_interrupted(moved) {
+            return moved;
         }
         tries -= 1;
     }

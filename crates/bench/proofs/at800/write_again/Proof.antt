@@ -1,14 +1,12 @@
 -- `bench::at800::write_again` meets its contract, which is that of writing.
 -- Assumes nothing.
-use Prim.Native.Nat.{ℕ}
-use mathlib.Core.Path.{sym, ap, _∙_}
+use mathlib.Core.Path.{sym}
 use native.Mathlib.Omega.{arith}
 use borrow.Author.Needs.{needs}
 use lib.Seq.{length-take-le}
-use lib.ListN.{length, take}
-use Rattle.answer.specs.Answer.{Answer, outputAfter}
 use Rattle.record800.specs.Record.{writtenRecord}
 use Rattle.record800.specs.Written.{writeAnswer}
+use Rattle.bench.proofs.Again.{written-again}
 use Rattle.bench.proofs.at800.write_again.Statement.{statement}
 use Rattle.bench.proofs.at800.write_again.Tie as tie
 
@@ -25,12 +23,7 @@ returns : tie.Need-returns
 returns c =
     let written = c .before .before .write in
     let args = c .before .before .before .before .before .before .before .before .args in
-    let bytes = args .bytes .now in
-    let held = args .characters .now in
-    λ h.
-    written .ensures .1 .0
-    ∙ ap (λ (a : Answer). outputAfter a (writtenRecord (take (args .count) bytes)) held)
-    (written .ensures .0 ∙ ap (λ (n : ℕ). writeAnswer n (length held)) (length-take-le (args .count) bytes h))
+    written-again writtenRecord writeAnswer (args .bytes .now) (args .count) (args .characters .now) _ (written .result) (written .ensures .0) (written .ensures .1 .0)
 
 returns-2 : tie.Need-returns-2
 returns-2 c = λ h. absurd (omega arith)

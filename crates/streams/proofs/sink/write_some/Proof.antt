@@ -18,20 +18,16 @@ loop-holds c = search needs
 write-requires : tie.Need-write-requires Inv-loop μ-loop
 write-requires c κs = search needs
 
-errno-requires : tie.Need-errno-requires Inv-loop μ-loop
-errno-requires c κs = search needs
-
-outcome-requires : tie.Need-outcome-requires Inv-loop μ-loop
-outcome-requires c κs = search needs
+came-requires : tie.Need-came-requires Inv-loop μ-loop
+came-requires c κs = search needs
 
 is-interrupted-requires : tie.Need-is-interrupted-requires Inv-loop μ-loop
 is-interrupted-requires c κs = search needs
 
 returns : tie.Need-returns Inv-loop μ-loop
 returns c =
-    let w = c .before .before .before .before .write in
-    let o = c .before .before .outcome in
-    moved-within w64 (w .result) (record { sfits = w .ok }) _ _ (o .result) (w .ensures) (o .ensures)
+    let w = c .before .before .before .write in
+    moved-within w64 (w .result) (record { sfits = w .ok }) _ _ (w .ensures) (c .before .before .came .ensures)
 
 sub-tries : tie.Need-sub-tries Inv-loop μ-loop
 sub-tries c = search needs
@@ -53,8 +49,7 @@ write-some-spec =
     μ-loop
     loop-holds
     write-requires
-    errno-requires
-    outcome-requires
+    came-requires
     is-interrupted-requires
     returns
     sub-tries

@@ -20,11 +20,8 @@ loop-holds c = search needs
 read-requires : tie.Need-read-requires Inv-loop μ-loop
 read-requires c κs = search needs
 
-errno-requires : tie.Need-errno-requires Inv-loop μ-loop
-errno-requires c κs = search needs
-
-outcome-requires : tie.Need-outcome-requires Inv-loop μ-loop
-outcome-requires c κs = search needs
+came-requires : tie.Need-came-requires Inv-loop μ-loop
+came-requires c κs = search needs
 
 is-interrupted-requires : tie.Need-is-interrupted-requires Inv-loop μ-loop
 is-interrupted-requires c κs = search needs
@@ -34,9 +31,8 @@ same-length c = search needs
 
 returns : tie.Need-returns Inv-loop μ-loop
 returns c =
-    let r = c .before .before .before .before .before .before .read in
-    let o = c .before .before .outcome in
-    rw (r .kept .1 .0) (moved-within w64 (r .result) (record { sfits = r .ok }) _ _ (o .result) (r .ensures) (o .ensures))
+    let r = c .before .before .before .before .before .read in
+    rw (r .kept .1 .0) (moved-within w64 (r .result) (record { sfits = r .ok }) _ _ (r .ensures) (c .before .before .came .ensures))
 
 sub-tries : tie.Need-sub-tries Inv-loop μ-loop
 sub-tries c = search needs
@@ -61,8 +57,7 @@ read-some-spec =
     μ-loop
     loop-holds
     read-requires
-    errno-requires
-    outcome-requires
+    came-requires
     is-interrupted-requires
     same-length
     returns
