@@ -1,6 +1,6 @@
 -- `streams::sink::send` meets its contract. The loop's invariant: what was taken is within the bytes.
 -- Assumes nothing.
-use Prim.Native.Nat.{_-_, _≤_}
+use Prim.Native.Nat.{_+_, _-_, _≤_, _<_}
 use mathlib.Core.Path.{refl}
 use native.Mathlib.Omega.{arith}
 use lib.ListN.{length}
@@ -41,51 +41,32 @@ returns c =
     let l = c .before .before .before .before .before .loop in
     taken (l .count) (c .before .before .write-some .result) (c .end .result) (c .end .ensures) _ (l .inv)
 
-add-count : tie.Need-add-count Inv-loop μ-loop
-add-count c =
-    let k = c in
+-- the write took one byte at least, and no more than were left
+took : (k : tie.After-known-told Inv-loop μ-loop)
+    → (0 < k .before .last .given .0 .0) × (k .before .before .before .before .before .before .loop .count + k .before .last .given .0 .0 ≤ length (k .before .before .before .before .before .before .before .before .args .bytes .now))
+took k =
     let at = k .before .before .before .before .before .before in
     let l = at .loop in
-    let bytes = at .before .before .args .bytes .now in
     let some = k .before .before .before .write-some in
-    let p = progress bytes (l .count) _ _ (some .result) (l .inv) refl (k .before .last .given .1) (some .ensures) in
-    search (needs, p .1)
+    progress (at .before .before .args .bytes .now) (l .count) _ _ (some .result) (l .inv) refl (k .before .last .given .1) (some .ensures)
+
+add-count : tie.Need-add-count Inv-loop μ-loop
+add-count c = search (needs, took c .1)
 
 is-cut-requires : tie.Need-is-cut-requires Inv-loop μ-loop
 is-cut-requires c κs = search needs
 
 loop-less : tie.Need-loop-less Inv-loop μ-loop
-loop-less c =
-    let k = c .before .before in
-    let at = k .before .before .before .before .before .before in
-    let l = at .loop in
-    let bytes = at .before .before .args .bytes .now in
-    let some = k .before .before .before .write-some in
-    let p = progress bytes (l .count) _ _ (some .result) (l .inv) refl (k .before .last .given .1) (some .ensures) in
-    omega (arith, p .0, p .1)
+loop-less c = omega (arith, took (c .before .before) .0, took (c .before .before) .1)
 
 loop-again : tie.Need-loop-again Inv-loop μ-loop
-loop-again c =
-    let k = c .before .before in
-    let at = k .before .before .before .before .before .before in
-    let l = at .loop in
-    let bytes = at .before .before .args .bytes .now in
-    let some = k .before .before .before .write-some in
-    let p = progress bytes (l .count) _ _ (some .result) (l .inv) refl (k .before .last .given .1) (some .ensures) in
-    p .1
+loop-again c = took (c .before .before) .1
 
 returns-2 : tie.Need-returns-2 Inv-loop μ-loop
 returns-2 c = search needs
 
 returns-3 : tie.Need-returns-3 Inv-loop μ-loop
-returns-3 c =
-    let k = c .before .before in
-    let at = k .before .before .before .before .before .before in
-    let l = at .loop in
-    let bytes = at .before .before .args .bytes .now in
-    let some = k .before .before .before .write-some in
-    let p = progress bytes (l .count) _ _ (some .result) (l .inv) refl (k .before .last .given .1) (some .ensures) in
-    p .1
+returns-3 c = took (c .before .before) .1
 
 pub send-spec : {M : Type 1} → statement M
 send-spec =

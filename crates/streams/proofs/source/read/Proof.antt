@@ -1,6 +1,6 @@
 -- `streams::source::read` meets its contract. The loop's invariant: what came is within the space.
 -- Assumes nothing.
-use Prim.Native.Nat.{_-_, _≤_}
+use Prim.Native.Nat.{_+_, _-_, _≤_, _<_}
 use mathlib.Core.Path.{_≡_, _∙_}
 use native.Mathlib.Omega.{arith}
 use borrow.Author.Needs.{needs}
@@ -49,27 +49,29 @@ returns c =
     let within : l .count ≤ length after = omega (arith, l .inv .0, same) in
     filled (l .count) (some .result) (c .end .result) (c .end .ensures) after within
 
+-- the read gave one byte at least, and no more than there was space for
+gave : (k : tie.After-known-told Inv-loop μ-loop)
+    → (0 < k .before .last .given .0 .0) × (k .before .before .before .before .before .before .before .before .loop .count + k .before .last .given .0 .0 ≤ length (k .before .before .before .before .before .before .before .before .loop .space))
+gave k =
+    let l = k .before .before .before .before .before .before .before .before .loop in
+    let some = k .before .before .before .before .before .read-some in
+    progress (l .space) (l .count) _ _ (some .result) (l .inv .0) (some .kept .0) (k .before .last .given .1) (some .ensures)
+
 add-count : tie.Need-add-count Inv-loop μ-loop
-add-count c =
-    let l = c .before .before .before .before .before .before .before .before .loop in
-    let some = c .before .before .before .before .before .read-some in
-    let p = progress (l .space) (l .count) _ _ (some .result) (l .inv .0) (some .kept .0) (c .before .last .given .1) (some .ensures) in
-    search (needs, p .1)
+add-count c = search (needs, gave c .1)
 
 loop-less : tie.Need-loop-less Inv-loop μ-loop
 loop-less c =
     let l = c .before .before .before .before .before .before .before .before .loop in
     let some = c .before .before .before .before .before .read-some in
-    let p = progress (l .space) (l .count) _ _ (some .result) (l .inv .0) (some .kept .0) (c .before .last .given .1) (some .ensures) in
-    omega (arith, p .0, p .1, same-len-mid (l .count) (length (l .space) - l .count) (l .space) (some .last .0) (some .kept .0))
+    omega (arith, gave c .0, gave c .1, same-len-mid (l .count) (length (l .space) - l .count) (l .space) (some .last .0) (some .kept .0))
 
 loop-again : tie.Need-loop-again Inv-loop μ-loop
 loop-again c =
     let l = c .before .before .before .before .before .before .before .before .loop in
     let some = c .before .before .before .before .before .read-some in
-    let p = progress (l .space) (l .count) _ _ (some .result) (l .inv .0) (some .kept .0) (c .before .last .given .1) (some .ensures) in
     let same = same-len-mid (l .count) (length (l .space) - l .count) (l .space) (some .last .0) (some .kept .0) in
-    (omega (arith, p .1, same), same ∙ l .inv .1)
+    (omega (arith, gave c .1, same), same ∙ l .inv .1)
 
 same-length-2 : tie.Need-same-length-2 Inv-loop μ-loop
 same-length-2 c = search needs
