@@ -11,7 +11,7 @@ use lib.Seq.{take-append-seam}
 use Rattle.answer.specs.Answer.{Answer, delivered, outputAfter}
 use Rattle.record6250.proofs.Answer as sixAnswer
 use Rattle.record6250.proofs.Backward as sixBackward
-use Rattle.record6250.proofs.Picture.{picture-forward, length-maps}
+use Rattle.record6250.proofs.Picture.{length-maps}
 use Rattle.record6250.proofs.Reading.{words-long}
 use Rattle.record6250.proofs.Record as sixRecord
 use Rattle.record6250.proofs.Undamaged as sixUndamaged
@@ -30,12 +30,12 @@ use Rattle.terms.proofs.Third.{one-delivered, delivered-passes, deliver
 
 pub turned-answer : (r : Reading) (space : ℕ) → readAnswer (turned r) space ≡ readAnswer r space
 unfolding turned readAnswer
-turned-answer (at6250 backward words maps) space = sixBackward.turned-answer words maps backward space
+turned-answer (at6250 backward words maps) space = sixBackward.turned-answer backward words maps space
 turned-answer (at800 backward characters) space = eightBackward.turned-answer backward characters space
 
 turned-data : (r : Reading) (space : ℕ) → Passes r space → readData (turned r) ≡ readData r
 unfolding turned readData Passes
-turned-data (at6250 backward words maps) space p = sixBackward.turned-data words maps backward (p .0 .lengths)
+turned-data (at6250 backward words maps) space p = sixBackward.turned-data backward words maps (p .0 .lengths)
 turned-data (at800 backward characters) space p = eightBackward.turned-data backward characters
 
 -- what a delivery stores is the same; a refusal stores nothing
@@ -137,10 +137,8 @@ unchanged-record : (r : Reading) (space : ℕ) → Passes r space → isBackward
     → changesTold (density r) (told r bytes) ≡ 0 → IsData (density r) bytes × (writtenRecord (density r) bytes ≡ received r)
 unfolding Passes Fits told changesTold density isBackward received IsData writtenRecord
 unchanged-record (at6250 true words maps) space p f bytes fits none = absurd (true≢false f)
-unchanged-record (at6250 false words maps) space p f bytes fits none = (
-  fits .are-data,
-  sym (sixUndamaged.unchanged false words maps bytes fits none) ∙ picture-forward words (length maps) (words-long false words maps (p .0)),
-)
+unchanged-record (at6250 false words maps) space p f bytes fits none =
+    (fits .are-data, sym (sixUndamaged.unchanged words maps bytes (p .0) fits none))
 unchanged-record (at800 true characters) space p f bytes fits none = absurd (true≢false f)
 unchanged-record (at800 false characters) space p f bytes fits none =
     (fits .are-data, sym (eightUndamaged.unchanged false characters bytes fits none) ∙ eightPicture.picture-forward characters)

@@ -12,19 +12,20 @@ use Rattle.register.specs.Sum.{xorSum}
 use Rattle.answer.specs.Answer.{outputAfter}
 use Rattle.group_code.specs.Code.{decoded, legal}
 use Rattle.group_code.specs.Word.{legalWord, valueOf, illegality, mirrored, reversedWord, forwardWord}
-use Rattle.rectangular.specs.Correction.{pointedTracks, errorAt, oneTrack, twoTracks, judged}
-use Rattle.rectangular.specs.Syndrome.{paritySyndrome, checkSyndrome, weighed, erasure, secondError}
+use Rattle.rectangular.specs.Correction.{pointedTracks, errorAt, without, judged, changedMap}
+use Rattle.rectangular.specs.Syndrome.{paritySyndrome, checkSyndrome, weighed, erasure, secondError, firstAccounting, oneError, twoErrors, errorsOf}
 use Rattle.rectangular.specs.Group.{information, check, character, column, track, group, informationOf}
-use Rattle.rectangular.specs.Correction.{changedMap}
 use Rattle.register.specs.Parity.{parity, parityDigits}
 use Rattle.slices.specs.Above.{firstAbove}
 use Rattle.record800.specs.Read as eightRead
 use Rattle.record800.specs.Record as eight
 use Rattle.record800.specs.Written as eightWritten
-use Rattle.record6250.specs.Group.{stray, illegalMap, pointed, judgedGroup, isCorrected, rightValues, reasonOf, rightBytes, rightWords}
-use Rattle.record6250.specs.Picture.{groupRead, mapRead, pictureWords, pictureMaps, turnedWords}
-use Rattle.record6250.specs.Read.{lengthsSuit, lastByte, paddingSuits, unpadded, readGroup, readMap, judgement, changedTracks, firstStray, firstUnfit, readBody, readData, changes, judgedAnswer, readAnswer}
+use Rattle.record6250.specs.Group.{illegalMap, reliedOn, relied, judgedGroup, isCorrected, rightValues, reasonOf, rightBytes, rightWords}
+use Rattle.record6250.specs.Picture.{groupLent, groupRead, mapRead, pictureMaps, turnedNumbers}
+use Rattle.record6250.specs.Read.{lengthsSuit, lastByte, paddingSuits, unpadded, readNumbers, readGroup, readMap, judgement, changedTracks, strayAt, firstStray, firstUnfit, readBody, readData, changes, judgedAnswer, answerIf, readAnswer}
 use Rattle.record6250.specs.Record.{padding, body, groupsFor, groupBytes, groupWords, firstGroups, writtenRecord}
+use Rattle.record6250.specs.Tape.{numbersAt, strayNumbers, wordsFrom, numbersFrom, turnedGroup}
+use Rattle.record6250.specs.Track.{wordOn, valueOn, wordsOf}
 use Rattle.record6250.specs.Written.{writeAnswer}
 use Rattle.terms.specs.Call.{answerTo, resultOf}
 use Rattle.terms.specs.Reading as Reading
@@ -32,5 +33,5 @@ use Rattle.terms.specs.Starred.{lent, answered, leaves, Row, row, made, 
 
 pub starred-hold : (map (λ (r : Row). answered (r .asked)) starred ≡ map (λ (r : Row). r .answer) starred)
     × (map (λ (r : Row). leaves (r .asked)) starred ≡ map (λ (r : Row). r .output) starred)
-unfolding starred written row made readings group6250 characters800 rowOf lent answered leaves answerTo resultOf Reading.turned Reading.writtenRecord Reading.readAnswer Reading.readData turnedWords pictureWords pictureMaps eightWritten.writeAnswer eight.writtenRecord eight.withCheck eight.longitudinal eight.checkCharacter held eight.characterOf eightRead.readAnswer eightRead.readData eightRead.firstStray eightRead.lengthSuits eightRead.judgedData eightRead.judgedAnswer eightRead.oneOf eightRead.holds eightRead.candidate eightRead.wrongCount eightRead.wrongParity eightRead.longitudinalRead eightRead.errorPattern eightRead.checkRead eightRead.wrong eightRead.expectedParity eightRead.picture firstAbove parity parityDigits outputAfter writeAnswer writtenRecord firstGroups groupWords groupBytes groupsFor body padding readAnswer judgedAnswer changes readData readBody firstUnfit firstStray changedTracks judgement readMap readGroup unpadded paddingSuits lastByte lengthsSuit mapRead groupRead rightWords rightBytes reasonOf rightValues isCorrected judgedGroup pointed illegalMap stray changedMap judged twoTracks oneTrack errorAt secondError erasure weighed checkSyndrome paritySyndrome pointedTracks group track column character check information informationOf forwardWord reversedWord mirrored illegality valueOf legalWord legal decoded xorSum shift shifts bit ofBits tabulate tabulateFrom blocks firstWhere below firstBelow keep turnedPlace total ones onesIn
+unfolding starred written row made readings group6250 characters800 rowOf lent answered leaves answerTo resultOf Reading.turned Reading.writtenRecord Reading.readAnswer Reading.readData turnedNumbers turnedGroup pictureMaps eightWritten.writeAnswer eight.writtenRecord eight.withCheck eight.longitudinal eight.checkCharacter held eight.characterOf eightRead.readAnswer eightRead.readData eightRead.firstStray eightRead.lengthSuits eightRead.judgedData eightRead.judgedAnswer eightRead.oneOf eightRead.holds eightRead.candidate eightRead.wrongCount eightRead.wrongParity eightRead.longitudinalRead eightRead.errorPattern eightRead.checkRead eightRead.wrong eightRead.expectedParity eightRead.picture firstAbove parity parityDigits outputAfter writeAnswer writtenRecord firstGroups groupWords groupBytes groupsFor body padding readAnswer answerIf judgedAnswer changes readData readBody firstUnfit firstStray changedTracks judgement readMap readGroup unpadded paddingSuits lastByte lengthsSuit mapRead groupRead groupLent readNumbers wordsFrom numbersFrom numbersAt rightWords wordsOf wordOn valueOn rightBytes reasonOf rightValues isCorrected judgedGroup relied reliedOn illegalMap strayAt strayNumbers changedMap judged without errorsOf twoErrors oneError firstAccounting errorAt secondError erasure weighed checkSyndrome paritySyndrome pointedTracks group track column character check information informationOf forwardWord reversedWord mirrored illegality valueOf legalWord legal decoded xorSum shift shifts bit ofBits tabulate tabulateFrom blocks firstWhere below firstBelow keep turnedPlace total ones onesIn
 starred-hold = (refl, refl)

@@ -6,7 +6,7 @@ use Prim.Native.Nat.{ℕ}
 use native.Mathlib.Nat.{le-of-eq}
 use lib.ListN.{length, drop}
 use Rattle.answer.specs.Answer.{Answer, delivered, refused, outputAfter}
-use Rattle.record6250.proofs.Answer.{all-passed, delivered-passed}
+use Rattle.record6250.proofs.Answer.{answer-passed, delivered-passed}
 use Rattle.record6250.proofs.Fitting.{fits-delivered, delivered-fits, only-one}
 use Rattle.record6250.specs.Read as sixRead
 use Rattle.record800.proofs.Answer as eightAnswer
@@ -20,7 +20,7 @@ pub one-delivered : (r : Reading) (space : ℕ) → Passes r space → (bytes : 
 unfolding Passes Enough Fits told readAnswer readData
 one-delivered (at6250 backward words maps) space p bytes one =
     let d = fits-delivered backward words maps (p .0) bytes (one .fits) in
-    (all-passed backward words maps space (p .0 .lengths) (p .1) (le-of-eq (sym (p .0 .no-stray))) ∙ d .0, d .1)
+    (answer-passed backward words maps (p .0) space (p .1) ∙ d .0, d .1)
 one-delivered (at800 backward characters) space p bytes one =
     let d = eightFitting.fits-delivered backward characters (p .0) bytes (one .fits) (one .only) in
     (eightAnswer.all-passed backward characters space (p .0 .lengths) (p .1) (le-of-eq (sym (p .0 .no-stray))) ∙ d .0, d .1)
@@ -35,7 +35,7 @@ pub delivered-one : (r : Reading) (space : ℕ) (figures : List ℕ) → readAns
 unfolding Enough Fits readAnswer
 delivered-one (at6250 backward words maps) space figures e =
     let p = delivered-passed backward words maps space figures e in
-    let judged = all-passed backward words maps space (p .0 .lengths) (p .1) (le-of-eq (sym (p .0 .no-stray))) in
+    let judged = answer-passed backward words maps (p .0) space (p .1) in
     let f = delivered-fits backward words maps (p .0) figures (sym judged ∙ e) in (
       sixRead.readData backward words maps,
       record { fits = f; only = λ others g. only-one backward words maps (p .0) others (sixRead.readData backward words maps) g f },

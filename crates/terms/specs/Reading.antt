@@ -54,7 +54,7 @@ writtenRecord bpi800 bytes = eightRecord.writtenRecord bytes
 
 -- the same record as it passes the head the other way (document 01, "Backward")
 unfoldable pub turned : Reading → Reading
-turned (at6250 backward words maps) = at6250 (not backward) (sixPicture.turnedWords words) (sixPicture.pictureMaps true maps)
+turned (at6250 backward words maps) = at6250 (not backward) (sixPicture.turnedNumbers words) (sixPicture.pictureMaps true maps)
 turned (at800 backward characters) = at800 (not backward) (eightRead.picture true characters)
 
 -- words or characters read undamaged, with no track pointed: forward, or turned, backward
