@@ -11,7 +11,9 @@ use Rattle.slices.specs.Turned.{turnedPlace}
 use Rattle.register.specs.Bit.{bit}
 use Rattle.rectangular.specs.Constants.{tracks, numbersPerGroup}
 use Rattle.group_code.specs.Word.{forwardWord}
-use Rattle.record6250.specs.Picture.{groupRead, mapRead}
+use Rattle.record6250.specs.Picture.{groupLent, groupRead, mapRead}
+use Rattle.record6250.specs.Tape.{numbersAt, wordsFrom}
+use Rattle.record6250.proofs.Tape.{getD-numbersAt}
 use Rattle.marks.specs.declared.marks.View.{View}
 use Rattle.marks.specs.Marks.{markOf, isPointed, isIllegal, isChanged, wordRead, groupMark, characterRead, characterRight, runRight, runMark}
 
@@ -20,11 +22,13 @@ pub word-read-is : (backward : Bool) (words : List ℕ) (groups g track place wo
     → place ≡ turnedPlace backward groups g
     → word ≡ forwardWord backward (getD words (numbersPerGroup * place + track) 0)
     → word ≡ wordRead backward words groups g track
-unfolding wordRead groupRead
+unfolding wordRead groupRead groupLent wordsFrom
 word-read-is backward words groups g track place word h hp hw =
+    let at = numbersPerGroup * turnedPlace backward groups g in
     hw
     ∙ ap (λ (p : ℕ). forwardWord backward (getD words (numbersPerGroup * p + track) 0)) hp
-    ∙ sym (getD-tabulate tracks (λ k. forwardWord backward (getD words (numbersPerGroup * turnedPlace backward groups g + k) 0)) track 0 h)
+    ∙ sym (getD-tabulate tracks (λ k. forwardWord backward (getD (numbersAt words at) k 0)) track 0 h
+    ∙ ap (forwardWord backward) (getD-numbersAt words at track h))
 
 -- a group's mark, from its parts
 pub group-mark-is : (view : View) (words maps right : List ℕ) (g track place word kept m : ℕ) (pointed illegal changed : Bool)

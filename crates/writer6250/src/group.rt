@@ -3,17 +3,18 @@ use group_code::word;
 use group6250::group::Group;
 use rectangular::Code6250;
 ghost use mathlib.Core.Path.{_≡_};
-ghost use mathlib.Core.List.{_++_, map};
+ghost use mathlib.Core.List.{_++_};
 ghost use Prim.Native.Nat.{_≤_};
 ghost use lib.ListN.{length, drop};
-ghost use Rattle.group_code.specs.Code.{wordOf};
 ghost use Rattle.rectangular.specs.Constants.{numbersPerGroup};
 ghost use Rattle.group6250.specs.Packed.{valuesOf};
+ghost use Rattle.record6250.specs.Tape.{numbersFrom};
+ghost use Rattle.record6250.specs.Track.{wordsOf};
 
 // Stores a group's nine words at the front.
 pub(crate) fn store(words: &mut [u16], group: Group)
     requires { ⌜ numbersPerGroup ≤ length (now words) ⌝ }
-    ensures { λ _. ⌜ now (words .exit) ≡ map wordOf (valuesOf group) ++ drop numbersPerGroup (now (words .entry)) ⌝ }
+    ensures { λ _. ⌜ now (words .exit) ≡ numbersFrom (wordsOf (valuesOf group)) ++ drop numbersPerGroup (now (words .entry)) ⌝ }
 {
     let mut j = 0;
     while j < Code6250::NUMBERS {

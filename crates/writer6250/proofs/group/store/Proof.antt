@@ -1,7 +1,7 @@
 -- `writer6250::group::store` meets its contract. The loop's invariant: the first `j` words are stored.
 -- Assumes nothing.
 use mathlib.Core.Path.{_≡_, refl, sym, ap, ap₂, _∙_}
-use mathlib.Core.List.{List, map}
+use mathlib.Core.List.{List}
 use Prim.Native.Nat.{ℕ, _≤_, _-_}
 use native.Mathlib.Omega.{arith}
 use borrow.Author.Needs.{needs}
@@ -10,13 +10,15 @@ use lib.ListN.{length, set, length-set}
 use Rattle.indexed.proofs.Front.{front, front-more, front-all}
 use Rattle.group_code.specs.Code.{wordOf}
 use Rattle.group6250.specs.Packed.{valuesOf}
+use Rattle.record6250.specs.Tape.{numbersFrom}
+use Rattle.record6250.specs.Track.{wordsOf}
 use Rattle.writer6250.proofs.Words.{length-words, word-at}
 use Rattle.writer6250.proofs.group.store.Statement.{statement}
 use Rattle.writer6250.proofs.group.store.Tie as tie
 
 abbrev Inv-loop : tie.InvT-loop
 Inv-loop words₀ group j₀ words j =
-    (j ≤ 9) × (length words ≡ length words₀) × (words ≡ front j (map wordOf (valuesOf group)) words₀)
+    (j ≤ 9) × (length words ≡ length words₀) × (words ≡ front j (numbersFrom (wordsOf (valuesOf group))) words₀)
 
 abbrev μ-loop : tie.MeasureT-loop
 μ-loop words₀ group j₀ words j = 9 - j
@@ -46,7 +48,7 @@ loop-again : tie.Need-loop-again Inv-loop μ-loop
 loop-again c =
     let at = c .before .before .before .loop in
     let args = c .before .before .before .before .before .args in
-    let result : List ℕ = map wordOf (valuesOf (args .group)) in (
+    let result : List ℕ = numbersFrom (wordsOf (valuesOf (args .group))) in (
       search needs,
       length-set (at .words) (at .j) _ ∙ at .inv .1,
       ap₂ (λ (l : List ℕ) (w : ℕ). set l (at .j) w) (at .inv .2)
@@ -63,7 +65,7 @@ returns : tie.Need-returns Inv-loop μ-loop
 returns c =
     let at = c .before .loop in
     let args = c .before .before .before .args in
-    let result : List ℕ = map wordOf (valuesOf (args .group)) in
+    let result : List ℕ = numbersFrom (wordsOf (valuesOf (args .group))) in
     let all : at .j ≡ 9 = omega arith in
     at .inv .2
     ∙ ap (λ (k : ℕ). front k result (now (args .words))) all

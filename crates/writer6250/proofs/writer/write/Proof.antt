@@ -2,7 +2,8 @@
 -- last group completes the record.
 -- Assumes nothing.
 use mathlib.Core.Path.{refl, ap, _∙_}
-use Prim.Native.Nat.{_+_, _*_, _/_}
+use mathlib.Core.List.{List}
+use Prim.Native.Nat.{ℕ, _+_, _*_, _/_}
 use native.Mathlib.Omega.{arith}
 use borrow.Author.Needs.{needs}
 use borrow.Author.Tests.{le-leb, lt-leb}
@@ -10,6 +11,7 @@ use denote.Ref.{now}
 use lib.ListN.{length}
 use Rattle.answer.specs.Answer.{outputAfter}
 use Rattle.record6250.specs.Record.{groupsFor, groupWords}
+use Rattle.record6250.specs.Tape.{numbersFrom}
 use Rattle.record6250.specs.Written.{writeAnswer}
 use Rattle.terms.proofs.Terms.{with-terms}
 use Rattle.terms.specs.Call.{write, answerTo, resultOf}
@@ -78,8 +80,8 @@ returns-3 c =
     let last = c .before .before .before .before .before .last-group in
     with-terms _ _ _ (write bpi6250 bytes)
     (simp (le-leb _ _ (c .before .before .before .before .before .before .before .before .before .before .before .if1 .left), le-leb (9 * (size / 7 + 1)) (length words) (omega arith)))
-    (one-more bytes words (size / 7) _ _ (groupWords (last .result)) (c .before .before .before .before .before .before .before .before .write-groups .ensures)
-    (ap groupWords (last .ensures))
+    (one-more bytes words (size / 7) _ _ (numbersFrom (groupWords (last .result))) (c .before .before .before .before .before .before .before .before .write-groups .ensures)
+    (ap (λ (l : List ℕ). numbersFrom (groupWords l)) (last .ensures))
     (c .before .before .write-groups2 .ensures ∙ one-stored (last .result) _ (search needs))
     ∙ all-stored bytes words)
 
