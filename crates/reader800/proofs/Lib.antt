@@ -1,3 +1,4 @@
 pub mod Tracks
 pub mod Gathering
 pub mod Deciding
+pub mod Answering

@@ -5,6 +5,7 @@ mod reader;
 use answer::Refusal;
 pub use reader::read_backward;
 pub use reader::read_forward;
+pub use reader::read_record;
 
 // The figures of a delivery: the data's length, the corrected track, 9 if nothing differs, and how many
 // characters of the reading differ from the record.

@@ -231,10 +231,11 @@ fn length_suits(count: usize) -> bool
     count <= Code800::MOST_LENGTH
 }
 
-// Reads a record, forward or backward.
-fn read(characters: &[u16], backward: bool, output: &mut [u8]) -> Read
+// Reads a record, forward or backward: a backward reading has its characters last first.
+pub fn read_record(characters: &[u16], backward: bool, output: &mut [u8]) -> Read
     ensures answer { λ r. ⌜ toldRead r ≡ readAnswer backward (now (characters .entry)) (length (now (output .entry))) ⌝ }
     ensures output { λ r. ⌜ now (output .exit) ≡ outputAfter (toldRead r) (readData backward (now (characters .entry))) (now (output .entry)) ⌝ }
+    ensures terms { λ r. ⌜ Terms (Call.read (at800 backward (now (characters .entry)))) (toldRead r) (now (output .entry)) (now (output .exit)) ⌝ }
 {
     let count = characters.len();
     if !length_suits(count) {
@@ -263,7 +264,7 @@ pub fn read_forward(characters: &[u16], output: &mut [u8]) -> Read
     ensures output { λ r. ⌜ now (output .exit) ≡ outputAfter (toldRead r) (readData false (now (characters .entry))) (now (output .entry)) ⌝ }
     ensures terms { λ r. ⌜ Terms (Call.read (at800 false (now (characters .entry)))) (toldRead r) (now (output .entry)) (now (output .exit)) ⌝ }
 {
-    read(characters, false, output)
+    read_record(characters, false, output)
 }
 
 // Reads a record that passed the head backward: its characters come last first.
@@ -272,5 +273,5 @@ pub fn read_backward(characters: &[u16], output: &mut [u8]) -> Read
     ensures output { λ r. ⌜ now (output .exit) ≡ outputAfter (toldRead r) (readData true (now (characters .entry))) (now (output .entry)) ⌝ }
     ensures terms { λ r. ⌜ Terms (Call.read (at800 true (now (characters .entry)))) (toldRead r) (now (output .entry)) (now (output .exit)) ⌝ }
 {
-    read(characters, true, output)
+    read_record(characters, true, output)
 }

@@ -18,24 +18,25 @@ use Rattle.register.proofs.Expand.{bit-xor, places}
 use Rattle.register.proofs.Parity.{parity-xor, parity-place}
 use Rattle.register.proofs.Sum.{sum-one}
 use Rattle.register.proofs.Xor.{digit-ind, xor-cancel}
+use Rattle.cyclic.specs.Constants.{tracks}
 
 -- ---- a digit at a place, by computing all of them
 
-bit-place : (d j : ℕ) → d < 2 → j < 9 → bit j (d * 2 ^ j) ≡ d
+bit-place : (d j : ℕ) → d < 2 → j < tracks → bit j (d * 2 ^ j) ≡ d
 unfolding bit
-bit-place = equal₂ 2 9 (λ d j. bit j (d * 2 ^ j)) (λ d j. d) tt
+bit-place = equal₂ 2 tracks (λ d j. bit j (d * 2 ^ j)) (λ d j. d) tt
 
-bit-elsewhere : (d i j : ℕ) → d < 2 → i < 9 → j < 9 → cond (eqb i j) 0 (bit i (d * 2 ^ j)) ≡ 0
+bit-elsewhere : (d i j : ℕ) → d < 2 → i < tracks → j < tracks → cond (eqb i j) 0 (bit i (d * 2 ^ j)) ≡ 0
 unfolding bit
-bit-elsewhere = equal₃ 2 9 9 (λ d i j. cond (eqb i j) 0 (bit i (d * 2 ^ j))) (λ d i j. 0) tt
+bit-elsewhere = equal₃ 2 tracks tracks (λ d i j. cond (eqb i j) 0 (bit i (d * 2 ^ j))) (λ d i j. 0) tt
 
 -- ---- a character that is changed in track j, if the digit d is 1
 
-module _ (a d j : ℕ) (hd : d < 2) (hj : j < 9) where
+module _ (a d j : ℕ) (hd : d < 2) (hj : j < tracks) where
   pub changed-bit : bit j (a ⊕ d * 2 ^ j) ≡ bit j a ⊕ d
   changed-bit = bit-xor j a (d * 2 ^ j) ∙ ap (λ (x : ℕ). bit j a ⊕ x) (bit-place d j hd hj)
 
-  pub other-bit : (i : ℕ) → i < 9 → (i ≡ j → ⊥) → bit i (a ⊕ d * 2 ^ j) ≡ bit i a
+  pub other-bit : (i : ℕ) → i < tracks → (i ≡ j → ⊥) → bit i (a ⊕ d * 2 ^ j) ≡ bit i a
   other-bit i hi apart =
       let none : bit i (d * 2 ^ j) ≡ 0 =
       sym (ap (λ (b : Bool). cond b 0 (bit i (d * 2 ^ j))) (ne-eqb i j apart)) ∙ bit-elsewhere d i j hd hi hj in
@@ -49,14 +50,14 @@ change-counted a d m hd hm =
     (ap (λ (b : Bool). cond b 0 1)
     (ne-eqb a (a ⊕ 1 * m) (λ q. let z : 0 ≡ 1 * m = sym (xor-self a) ∙ ap (λ (x : ℕ). a ⊕ x) q ∙ xor-cancel a (1 * m) in omega arith))) d hd
 
-pub change-counted-bit : (a d j : ℕ) → d < 2 → j < 9 → cond (eqb (bit j a) (bit j (a ⊕ d * 2 ^ j))) 0 1 ≡ d
+pub change-counted-bit : (a d j : ℕ) → d < 2 → j < tracks → cond (eqb (bit j a) (bit j (a ⊕ d * 2 ^ j))) 0 1 ≡ d
 change-counted-bit a d j hd hj =
     ap (λ (x : ℕ). cond (eqb (bit j a) x) 0 1) (changed-bit a d j hd hj ∙ ap (λ (x : ℕ). bit j a ⊕ x) (sym (mul-one d)))
     ∙ change-counted (bit j a) d 1 hd (omega arith)
 
 -- ---- two characters that agree outside track j
 
-module _ (a b j : ℕ) (ha : a < 512) (hb : b < 512) (hj : j < 9) (agree : (i : ℕ) → i < 9 → (i ≡ j → ⊥) → bit i a ≡ bit i b) where
+module _ (a b j : ℕ) (ha : a < 512) (hb : b < 512) (hj : j < tracks) (agree : (i : ℕ) → i < tracks → (i ≡ j → ⊥) → bit i a ≡ bit i b) where
   -- their sum has no bit but that of the track
   sum-is : a ⊕ b ≡ bit j (a ⊕ b) * 2 ^ j
   sum-is =

@@ -25,7 +25,7 @@ use Rattle.register.proofs.Parity.{parity-lt, parity-xor, parity-place}
 use Rattle.register.proofs.Shift.{shifts-zero, shifts-place}
 use Rattle.register.proofs.Sum.{sum-zero, sum-xor}
 use Rattle.register.proofs.Xor.{digit-ind, odd-lt, xor-cancel, xor-zero→eq}
-use Rattle.cyclic.specs.Constants.{feedback, offset}
+use Rattle.cyclic.specs.Constants.{feedback, offset, tracks, checks}
 use Rattle.record800.specs.Read.{expectedParity, wrong, checkRead, errorPattern, longitudinalRead, wrongParity, wrongCount, candidate, holds}
 use Rattle.record800.specs.Record.{checkSum, writtenRecord}
 use Rattle.record800.proofs.Recorded.{written-if}
@@ -71,11 +71,11 @@ module _ (n : ℕ) (l : List ℕ) where
 
   -- ---- a reading of which no parity is wrong
 
-  pub none-wrong : wrongCount n l ≡ 0 → (k : ℕ) → k < n + 2 → wrong n l k ≡ 0
+  pub none-wrong : wrongCount n l ≡ 0 → (k : ℕ) → k < n + checks → wrong n l k ≡ 0
   unfolding wrongCount
-  none-wrong e = total-zero (n + 2) (wrong n l) e
+  none-wrong e = total-zero (n + checks) (wrong n l) e
 
-  pub candidate-same : wrongCount n l ≡ 0 → (j k : ℕ) → k < n + 2 → candidate n l j k ≡ getD l k 0
+  pub candidate-same : wrongCount n l ≡ 0 → (j k : ℕ) → k < n + checks → candidate n l j k ≡ getD l k 0
   unfolding candidate
   candidate-same e j k h =
       ap (λ (w : ℕ). getD l k 0 ⊕ w * 2 ^ j) (none-wrong e k h)
@@ -88,7 +88,7 @@ module _ (n : ℕ) (l : List ℕ) where
 
   pub even-wrong : wrongCount n l ≡ 0 → wrongParity n l ≡ 0
   unfolding wrongParity
-  even-wrong e = sum-zero (n + 2) (wrong n l) (none-wrong e)
+  even-wrong e = sum-zero (n + checks) (wrong n l) (none-wrong e)
 
   -- all tracks hold or none does
   pub holds-same : wrongCount n l ≡ 0 → (j : ℕ) → holds n l j ≡ holds n l 0
@@ -98,7 +98,7 @@ module _ (n : ℕ) (l : List ℕ) where
       (ap (shifts 9 feedback j) (no-pattern e) ∙ shifts-zero 9 feedback j ∙ sym (no-pattern e))
       (ap (λ (w : ℕ). w * 2 ^ j) (even-wrong e) ∙ zero-mul (2 ^ j) ∙ sym (zero-mul (2 ^ 0)) ∙ sym (ap (λ (w : ℕ). w * 2 ^ 0) (even-wrong e)))
 
-  module _ (below : (k : ℕ) → getD l k 0 < 512) (j : ℕ) (is-track : j < 9) where
+  module _ (below : (k : ℕ) → getD l k 0 < 512) (j : ℕ) (is-track : j < tracks) where
     pub candidate-lt : (k : ℕ) → candidate n l j k < 512
     unfolding candidate
     candidate-lt k = xor-lt 9 (getD l k 0) (wrong n l k * 2 ^ j) (below k) (digit-place-lt 9 j (wrong n l k) is-track (wrong-lt k))
@@ -121,16 +121,16 @@ module _ (n : ℕ) (l : List ℕ) where
         ∙ held-of-shifts 9 feedback 0 (n + 1) (wrong n l) j
         ∙ sym (held-shifts 9 feedback 0 (n + 1) (wrong n l) (lit< tt) (λ k h. omega (arith, wrong-lt k)) j))
 
-    pub candidate-longitudinal : xorSum (n + 2) (candidate n l j) ≡ longitudinalRead n l ⊕ wrongParity n l * 2 ^ j
+    pub candidate-longitudinal : xorSum (n + checks) (candidate n l j) ≡ longitudinalRead n l ⊕ wrongParity n l * 2 ^ j
     unfolding candidate longitudinalRead wrongParity
     candidate-longitudinal =
-        sum-xor (n + 2) (λ k. getD l k 0) (λ k. wrong n l k * 2 ^ j)
+        sum-xor (n + checks) (λ k. getD l k 0) (λ k. wrong n l k * 2 ^ j)
         ∙ ap (λ (x : ℕ). longitudinalRead n l ⊕ x)
-        (sym (linear-sum 1 (λ a. a * 2 ^ j) (λ a b ha hb. shl-xor j a b) (n + 2) (wrong n l) (λ k h. wrong-lt k)))
+        (sym (linear-sum 1 (λ a. a * 2 ^ j) (λ a b ha hb. shl-xor j a b) (n + checks) (wrong n l) (λ k h. wrong-lt k)))
 
     -- ---- where the track holds
 
-    pub holds-sums : holds n l j ≡ true → (checkSum (n + 1) (candidate n l j) ≡ offset) × (xorSum (n + 2) (candidate n l j) ≡ 0)
+    pub holds-sums : holds n l j ≡ true → (checkSum (n + 1) (candidate n l j) ≡ offset) × (xorSum (n + checks) (candidate n l j) ≡ 0)
     unfolding holds
     holds-sums e =
         let b =
@@ -141,12 +141,12 @@ module _ (n : ℕ) (l : List ℕ) where
               ∙ xor-self (wrongParity n l * 2 ^ j),
         )
 
-    pub sums-hold : checkSum (n + 1) (candidate n l j) ≡ offset → xorSum (n + 2) (candidate n l j) ≡ 0 → holds n l j ≡ true
+    pub sums-hold : checkSum (n + 1) (candidate n l j) ≡ offset → xorSum (n + checks) (candidate n l j) ≡ 0 → holds n l j ≡ true
     unfolding holds
     sums-hold c x =
         ap₂ _&&_ (eq-eqb _ _ (sym candidate-check ∙ c)) (eq-eqb _ _ (xor-zero→eq (longitudinalRead n l) (wrongParity n l * 2 ^ j) (sym candidate-longitudinal ∙ x)))
 
-    pub candidate-written : holds n l j ≡ true → writtenRecord (tabulate n (λ k. candidate n l j k % 256)) ≡ tabulate (n + 2) (candidate n l j)
+    pub candidate-written : holds n l j ≡ true → writtenRecord (tabulate n (λ k. candidate n l j k % 256)) ≡ tabulate (n + checks) (candidate n l j)
     candidate-written e =
         written-if n (candidate n l j) (λ k h. candidate-lt k) (λ k h. candidate-parity k ∙ expected-odd k h) (holds-sums e .0) (holds-sums e .1)
 
@@ -159,12 +159,12 @@ digit-at-both d i j hd h =
 
 -- if some parity is wrong they differ
 pub tracks-apart : (n : ℕ) (l : List ℕ) → 0 < wrongCount n l → (i j : ℕ) → i < j
-    → ((k : ℕ) → k < n + 2 → candidate n l i k ≡ candidate n l j k) → ⊥
+    → ((k : ℕ) → k < n + checks → candidate n l i k ≡ candidate n l j k) → ⊥
 unfolding wrongCount candidate
 tracks-apart n l some i j h same =
     omega (
       arith,
-      total-of-zeros (n + 2) (wrong n l)
+      total-of-zeros (n + checks) (wrong n l)
           (λ k b. digit-at-both (wrong n l k) i j (wrong-lt n l k) h
           (sym (xor-cancel (getD l k 0) (wrong n l k * 2 ^ i))
           ∙ ap (λ (x : ℕ). getD l k 0 ⊕ x) (same k b)

@@ -25,7 +25,7 @@ use Rattle.register.specs.Sum.{xorSum}
 use Rattle.register.specs.Xor.{_⊕_}
 use Rattle.register.proofs.Held.{held-ext}
 use Rattle.register.proofs.Sum.{sum-ext}
-use Rattle.cyclic.specs.Constants.{feedback, offset}
+use Rattle.cyclic.specs.Constants.{feedback, offset, tracks, checks}
 use Rattle.record800.specs.Fits.{IsData, Passes, Fits, trackChanged, charactersChanged}
 use Rattle.record800.specs.Read.{picture, expectedParity, wrong, wrongCount, candidate, holds, judgedAnswer, judgedData, readData}
 use Rattle.record800.specs.Record.{checkSum, writtenRecord}
@@ -39,7 +39,7 @@ use Rattle.answer.proofs.Apart.{not-both}
 module _ (backward : Bool) (characters : List ℕ) (passes : Passes backward characters) where
   -- the number of data characters, and the forward picture
   abbrev n : ℕ
-  n = length characters - 2
+  n = length characters - checks
 
   abbrev l : List ℕ
   l = picture backward characters
@@ -56,12 +56,12 @@ module _ (backward : Bool) (characters : List ℕ) (passes : Passes backward cha
     as-many : length bytes ≡ n
     as-many = omega (arith, f .as-long)
 
-    right-parity : (k : ℕ) → k < n + 2 → parity (right k) ≡ expectedParity n l k
+    right-parity : (k : ℕ) → k < n + checks → parity (right k) ≡ expectedParity n l k
     right-parity k h =
         record-parity bytes (f .are-data .are-bytes) l k (omega (arith, as-many)) ∙ ap (λ (m : ℕ). expectedParity m l k) as-many
 
     -- each character has the parity that was expected, and differs in the track at most
-    right-candidate : (k : ℕ) → k < n + 2 → right k ≡ candidate n l (f .track) k
+    right-candidate : (k : ℕ) → k < n + checks → right k ≡ candidate n l (f .track) k
     unfolding candidate wrong
     right-candidate k h =
         one-apart (getD l k 0) (right k) (f .track) (picture-below backward characters passes k) (record-lt bytes (f .are-data .are-bytes) k)
@@ -74,17 +74,17 @@ module _ (backward : Bool) (characters : List ℕ) (passes : Passes backward cha
         ∙ ap (λ (m : ℕ). checkSum (m + 1) right) (sym as-many)
         ∙ record-check-sum bytes
 
-    longitudinal-right : xorSum (n + 2) (candidate n l (f .track)) ≡ 0
+    longitudinal-right : xorSum (n + checks) (candidate n l (f .track)) ≡ 0
     longitudinal-right =
-        sum-ext (n + 2) _ _ (λ k h. sym (right-candidate k h))
-        ∙ ap (λ (m : ℕ). xorSum (m + 2) right) (sym as-many)
+        sum-ext (n + checks) _ _ (λ k h. sym (right-candidate k h))
+        ∙ ap (λ (m : ℕ). xorSum (m + checks) right) (sym as-many)
         ∙ record-longitudinal-sum bytes
 
-    pub fits-candidate : (writtenRecord bytes ≡ tabulate (n + 2) (candidate n l (f .track))) × (holds n l (f .track) ≡ true)
+    pub fits-candidate : (writtenRecord bytes ≡ tabulate (n + checks) (candidate n l (f .track))) × (holds n l (f .track) ≡ true)
     fits-candidate = (
-      ext-getD 0 _ _ (length-record bytes ∙ ap (λ (m : ℕ). m + 2) as-many ∙ sym (length-tabulate (n + 2) (candidate n l (f .track))))
-          (λ k h. let b : k < n + 2 = omega (arith, length-record bytes, as-many) in
-          right-candidate k b ∙ sym (getD-tabulate (n + 2) (candidate n l (f .track)) k 0 b)),
+      ext-getD 0 _ _ (length-record bytes ∙ ap (λ (m : ℕ). m + checks) as-many ∙ sym (length-tabulate (n + checks) (candidate n l (f .track))))
+          (λ k h. let b : k < n + checks = omega (arith, length-record bytes, as-many) in
+          right-candidate k b ∙ sym (getD-tabulate (n + checks) (candidate n l (f .track)) k 0 b)),
       sums-hold n l (picture-below backward characters passes) (f .track) (f .is-track) check-right longitudinal-right,
     )
 
@@ -100,13 +100,13 @@ module _ (backward : Bool) (characters : List ℕ) (passes : Passes backward cha
     abbrev changedIn : ℕ → ℕ
     changedIn t = differences (length characters) (λ k. bit t (getD l k 0)) (λ k. bit t (right k))
 
-    pub nothing-changed : wrongCount n l ≡ 0 → (trackChanged backward characters bytes ≡ 9) × (charactersChanged backward characters bytes ≡ 0)
+    pub nothing-changed : wrongCount n l ≡ 0 → (trackChanged backward characters bytes ≡ tracks) × (charactersChanged backward characters bytes ≡ 0)
     unfolding trackChanged charactersChanged
     nothing-changed e =
         let same : (k : ℕ) → k < length characters → getD l k 0 ≡ right k =
-        λ k h. let b : k < n + 2 = omega (arith, as-counted backward characters passes) in
+        λ k h. let b : k < n + checks = omega (arith, as-counted backward characters passes) in
         sym (right-candidate k b ∙ candidate-same n l e (f .track) k b) in (
-          first-below-none 9 _
+          first-below-none tracks _
               (λ t h. le-ltb 0 (changedIn t) (le-of-eq (differences-zero (length characters) _ _ (λ k b. ap (bit t) (same k b))))),
           differences-zero (length characters) _ _ same,
         )
@@ -115,12 +115,12 @@ module _ (backward : Bool) (characters : List ℕ) (passes : Passes backward cha
         → (trackChanged backward characters bytes ≡ f .track) × (charactersChanged backward characters bytes ≡ wrongCount n l)
     unfolding trackChanged charactersChanged wrongCount candidate
     changed some = (
-      first-below-at 9 _ (f .track) (f .is-track) (λ t h. le-ltb 0 (changedIn t) (le-of-eq (elsewhere t h)))
+      first-below-at tracks _ (f .track) (f .is-track) (λ t h. le-ltb 0 (changedIn t) (le-of-eq (elsewhere t h)))
           (lt-ltb 0 (changedIn (f .track)) (rw in-track some)),
       characters-wrong,
     )
       where
-        counted : (k : ℕ) → k < length characters → k < n + 2
+        counted : (k : ℕ) → k < length characters → k < n + checks
         counted k h = omega (arith, as-counted backward characters passes)
 
         elsewhere : (t : ℕ) → t < f .track → changedIn t ≡ 0
@@ -145,11 +145,11 @@ module _ (backward : Bool) (characters : List ℕ) (passes : Passes backward cha
 
   -- ---- a candidate fits, if its track holds
 
-  module _ (j : ℕ) (is-track : j < 9) (held : holds n l j ≡ true) where
-    candidate-record : (k : ℕ) → k < n + 2 → getD (writtenRecord (bytesOf n l j)) k 0 ≡ candidate n l j k
+  module _ (j : ℕ) (is-track : j < tracks) (held : holds n l j ≡ true) where
+    candidate-record : (k : ℕ) → k < n + checks → getD (writtenRecord (bytesOf n l j)) k 0 ≡ candidate n l j k
     candidate-record k h =
         ap (λ (r : List ℕ). getD r k 0) (candidate-written n l (picture-below backward characters passes) j is-track held)
-        ∙ getD-tabulate (n + 2) (candidate n l j) k 0 h
+        ∙ getD-tabulate (n + checks) (candidate n l j) k 0 h
 
     candidate-data : IsData (bytesOf n l j)
     candidate-data = record {
@@ -167,7 +167,7 @@ module _ (backward : Bool) (characters : List ℕ) (passes : Passes backward cha
     unfolding candidate
     candidate-fits = record {
       are-data = candidate-data;
-      as-long = ap (λ (m : ℕ). m + 2) (length-tabulate n (λ k. candidate n l j k % 256)) ∙ as-counted backward characters passes;
+      as-long = ap (λ (m : ℕ). m + checks) (length-tabulate n (λ k. candidate n l j k % 256)) ∙ as-counted backward characters passes;
       track = j;
       is-track = is-track;
       one-track = λ t h apart k b. sym (ap (bit t) (candidate-record k (omega (arith, as-counted backward characters passes)))
@@ -175,7 +175,7 @@ module _ (backward : Bool) (characters : List ℕ) (passes : Passes backward cha
     }
 
   -- two tracks that hold, if some parity is wrong, are of two records
-  pub bytes-apart : 0 < wrongCount n l → (i j : ℕ) → i < j → j < 9 → holds n l i ≡ true → holds n l j ≡ true
+  pub bytes-apart : 0 < wrongCount n l → (i j : ℕ) → i < j → j < tracks → holds n l i ≡ true → holds n l j ≡ true
       → bytesOf n l i ≡ bytesOf n l j → ⊥
   bytes-apart some i j h b p q e =
       tracks-apart n l some i j h
@@ -202,7 +202,7 @@ module _ (backward : Bool) (characters : List ℕ) (passes : Passes backward cha
           → (judgedAnswer n l ≡ answer (length bytes) (trackChanged backward characters bytes) (charactersChanged backward characters bytes))
           × (judgedData n l ≡ bytes)
       by (clean e h a) = (
-        a ∙ told n 9 0 (sym (as-many bytes f)) (sym (nothing-changed bytes f e .0)) (sym (nothing-changed bytes f e .1)),
+        a ∙ told n tracks 0 (sym (as-many bytes f)) (sym (nothing-changed bytes f e .0)) (sym (nothing-changed bytes f e .1)),
         data-first n l h ∙ only (bytesOf n l 0) (candidate-fits 0 (omega arith) h),
       )
       by (one some j b h alone a) = (

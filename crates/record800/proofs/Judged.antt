@@ -13,20 +13,21 @@ use Rattle.answer.specs.Answer.{Answer, delivered, refused}
 use Rattle.indexed.specs.List.{tabulate, below, keep}
 use Rattle.indexed.proofs.Below.{first-below-at}
 use Rattle.indexed.proofs.Keep.{Kept, kept-below}
+use Rattle.cyclic.specs.Constants.{tracks}
 use Rattle.record800.specs.Read.{wrongCount, candidate, holds, oneOf, judgedAnswer, judgedData}
 use Rattle.record800.proofs.Candidate.{holds-same}
 
 module _ (n : ℕ) (l : List ℕ) where
   -- no parity is wrong, and the reading is a written record; or some are, and one track holds, or several do; or none holds
   pub data Judged (answer : Answer) : Type 0 where
-    clean : wrongCount n l ≡ 0 → holds n l 0 ≡ true → answer ≡ delivered (n ∷ 9 ∷ 0 ∷ []) → Judged answer
-    one : 0 < wrongCount n l → (j : ℕ) → j < 9 → holds n l j ≡ true → ((i : ℕ) → i < 9 → holds n l i ≡ true → i ≡ j)
+    clean : wrongCount n l ≡ 0 → holds n l 0 ≡ true → answer ≡ delivered (n ∷ tracks ∷ 0 ∷ []) → Judged answer
+    one : 0 < wrongCount n l → (j : ℕ) → j < tracks → holds n l j ≡ true → ((i : ℕ) → i < tracks → holds n l i ≡ true → i ≡ j)
         → answer ≡ delivered (n ∷ j ∷ wrongCount n l ∷ []) → Judged answer
-    several : 0 < wrongCount n l → (i j : ℕ) → i < j → j < 9 → holds n l i ≡ true → holds n l j ≡ true → answer ≡ refused 8 0 → Judged answer
-    none : ((j : ℕ) → j < 9 → holds n l j ≡ true → ⊥) → answer ≡ refused 7 0 → Judged answer
+    several : 0 < wrongCount n l → (i j : ℕ) → i < j → j < tracks → holds n l i ≡ true → holds n l j ≡ true → answer ≡ refused 8 0 → Judged answer
+    none : ((j : ℕ) → j < tracks → holds n l j ≡ true → ⊥) → answer ≡ refused 7 0 → Judged answer
 
   -- by what is known of the tracks that hold
-  of-kept : 0 < wrongCount n l → (tracks : List ℕ) → Kept (holds n l) 0 9 tracks → Judged (oneOf n l tracks)
+  of-kept : 0 < wrongCount n l → (held : List ℕ) → Kept (holds n l) 0 tracks held → Judged (oneOf n l held)
   unfolding oneOf
   of-kept some [] k = none (λ j h e. not-suc-le-zero (k .complete j (omega arith) h e .1)) refl
   of-kept some (j ∷ []) k =
@@ -40,7 +41,7 @@ module _ (n : ℕ) (l : List ℕ) where
       several some i j (k .ascending 0 1 (omega arith) (omega arith)) (k .under 1 (omega arith)) (k .passes 0 (omega arith))
       (k .passes 1 (omega arith)) refl
 
-  of-clean : wrongCount n l ≡ 0 → (b : Bool) → holds n l 0 ≡ b → Judged (cond b (delivered (n ∷ 9 ∷ 0 ∷ [])) (refused 7 0))
+  of-clean : wrongCount n l ≡ 0 → (b : Bool) → holds n l 0 ≡ b → Judged (cond b (delivered (n ∷ tracks ∷ 0 ∷ [])) (refused 7 0))
   of-clean e true h = clean e h refl
   of-clean e false h = none (λ j b q. true≢false (sym q ∙ holds-same n l e j ∙ h)) refl
 
@@ -49,11 +50,11 @@ module _ (n : ℕ) (l : List ℕ) where
   judged = by (eqb (wrongCount n l) 0) refl
     where
       by : (b : Bool) → eqb (wrongCount n l) 0 ≡ b
-          → Judged (cond b (cond (holds n l 0) (delivered (n ∷ 9 ∷ 0 ∷ [])) (refused 7 0)) (oneOf n l (keep (holds n l) (below 9))))
+          → Judged (cond b (cond (holds n l 0) (delivered (n ∷ tracks ∷ 0 ∷ [])) (refused 7 0)) (oneOf n l (keep (holds n l) (below tracks))))
       by true e = of-clean (eqb-true _ _ e) (holds n l 0) refl
       by false e =
           let apart = eqb-false (wrongCount n l) 0 e in
-          of-kept (positive (wrongCount n l) apart) (keep (holds n l) (below 9)) (kept-below (holds n l) 9)
+          of-kept (positive (wrongCount n l) apart) (keep (holds n l) (below tracks)) (kept-below (holds n l) tracks)
         where
           positive : (w : ℕ) → (w ≡ 0 → ⊥) → 0 < w
           positive zero ne = absurd (ne refl)
@@ -66,11 +67,11 @@ module _ (n : ℕ) (l : List ℕ) where
 
   pub data-first : holds n l 0 ≡ true → judgedData n l ≡ bytesOf 0
   unfolding judgedData
-  data-first e = ap bytesOf (first-below-at 9 (holds n l) 0 (omega arith) (λ i b. absurd (not-suc-le-zero b)) e)
+  data-first e = ap bytesOf (first-below-at tracks (holds n l) 0 (omega arith) (λ i b. absurd (not-suc-le-zero b)) e)
 
-  pub data-only : (j : ℕ) → j < 9 → holds n l j ≡ true → ((i : ℕ) → i < 9 → holds n l i ≡ true → i ≡ j) → judgedData n l ≡ bytesOf j
+  pub data-only : (j : ℕ) → j < tracks → holds n l j ≡ true → ((i : ℕ) → i < tracks → holds n l i ≡ true → i ≡ j) → judgedData n l ≡ bytesOf j
   unfolding judgedData
-  data-only j h e only = ap bytesOf (first-below-at 9 (holds n l) j h (λ i b. by i b (holds n l i) refl) e)
+  data-only j h e only = ap bytesOf (first-below-at tracks (holds n l) j h (λ i b. by i b (holds n l i) refl) e)
     where
       by : (i : ℕ) → i < j → (b : Bool) → holds n l i ≡ b → holds n l i ≡ false
       by i b true q = absurd (omega (arith, only i (omega arith) q))

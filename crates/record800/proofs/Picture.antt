@@ -18,7 +18,7 @@ use Rattle.indexed.proofs.First.{first-none, first-before}
 use Rattle.indexed.proofs.Tabulate.{length-tabulate, getD-tabulate}
 use Rattle.slices.specs.Union.{unionOf}
 use Rattle.slices.proofs.Or.{below-union}
-use Rattle.cyclic.specs.Constants.{leastData, mostData, checks}
+use Rattle.cyclic.specs.Constants.{mostCharacter, leastData, mostData, checks}
 use Rattle.record800.specs.Fits.{Passes}
 use Rattle.record800.specs.Read.{picture, lengthSuits, firstStray}
 use Rattle.record800.proofs.Candidate.{both-true}
@@ -38,8 +38,8 @@ module _ (backward : Bool) (characters : List ℕ) where
   pub none-stray : unionOf characters < 512 → firstStray backward characters ≡ length characters
   unfolding firstStray firstAbove
   none-stray h =
-      first-none (λ v. ltb 511 v) _ _ (sym length-picture)
-      (λ k b. ap (ltb 511) (getD-picture k b) ∙ le-ltb 511 _ (le-of-suc-le-suc (below-union characters 512 h _ (turned-lt backward (length characters) k b))))
+      first-none (λ v. ltb mostCharacter v) _ _ (sym length-picture)
+      (λ k b. ap (ltb mostCharacter) (getD-picture k b) ∙ le-ltb mostCharacter _ (le-of-suc-le-suc (below-union characters 512 h _ (turned-lt backward (length characters) k b))))
 
 pub picture-forward : (characters : List ℕ) → picture false characters ≡ characters
 unfolding turnedPlace
@@ -59,14 +59,14 @@ picture-twice backward characters =
 -- ---- a reading that passes
 
 module _ (backward : Bool) (characters : List ℕ) (passes : Passes backward characters) where
-  pub lengths-within : (3 ≤ length characters) × (length characters ≤ 2050)
+  pub lengths-within : (leastData + checks ≤ length characters) × (length characters ≤ mostData + checks)
   unfolding lengthSuits
   lengths-within =
       let b = both-true (leb (leastData + checks) (length characters)) (leb (length characters) (mostData + checks)) (passes .lengths) in
       (leb-true _ _ (b .0), leb-true _ _ (b .1))
 
   -- the data characters, the check character and the longitudinal one
-  pub as-counted : length characters - 2 + 2 ≡ length characters
+  pub as-counted : length characters - checks + checks ≡ length characters
   as-counted = omega (arith, lengths-within .0)
 
   -- no character has a bit above the ninth
@@ -79,7 +79,7 @@ module _ (backward : Bool) (characters : List ℕ) (passes : Passes backward cha
           omega (
             arith,
             ltb-false 511 (getD (picture backward characters) k 0)
-                (first-before (λ v. ltb 511 v) (picture backward characters) k (omega (arith, passes .no-stray))),
+                (first-before (λ v. ltb mostCharacter v) (picture backward characters) k (omega (arith, passes .no-stray))),
           )
       by (no h) =
           omega (

@@ -27,7 +27,7 @@ use Rattle.register.proofs.Held.{held-ext, held-last, held-lt, held-parity}
 use Rattle.register.proofs.Parity.{parity-xor, odd-more, sum-odd}
 use Rattle.register.proofs.Sum.{sum-ext, sum-lt, sum-last}
 use Rattle.register.proofs.Xor.{xor-cancel, xor-zero→eq}
-use Rattle.cyclic.specs.Constants.{feedback, offset}
+use Rattle.cyclic.specs.Constants.{feedback, offset, checks}
 use Rattle.cyclic.proofs.Constants.{feedback-odd, offset-odd}
 use Rattle.record800.specs.Read.{expectedParity}
 use Rattle.record800.specs.Record.{characterOf, checkSum, checkCharacter, longitudinal, withCheck, writtenRecord}
@@ -77,10 +77,10 @@ unfolding withCheck
 length-with-check bytes =
     length-append (map characterOf bytes) _ ∙ ap (λ (n : ℕ). n + 1) (length-map bytes characterOf)
 
-pub length-record : (bytes : List ℕ) → length (writtenRecord bytes) ≡ length bytes + 2
+pub length-record : (bytes : List ℕ) → length (writtenRecord bytes) ≡ length bytes + checks
 unfolding writtenRecord
 length-record bytes =
-    let next : length bytes + 1 + 1 ≡ length bytes + 2 = omega arith in
+    let next : length bytes + 1 + 1 ≡ length bytes + checks = omega arith in
     length-append (withCheck (map characterOf bytes)) _ ∙ ap (λ (n : ℕ). n + 1) (length-with-check bytes) ∙ next
 
 -- all but the last
@@ -141,7 +141,7 @@ record-check-sum bytes =
     ∙ ap (λ (x : ℕ). held 9 feedback 1 (length bytes) (λ k. getD (writtenRecord bytes) k 0) ⊕ x) (record-check bytes ∙ check-is bytes)
     ∙ xor-cancel (held 9 feedback 1 (length bytes) (λ k. getD (writtenRecord bytes) k 0)) offset
 
-pub record-longitudinal-sum : (bytes : List ℕ) → xorSum (length bytes + 2) (λ k. getD (writtenRecord bytes) k 0) ≡ 0
+pub record-longitudinal-sum : (bytes : List ℕ) → xorSum (length bytes + checks) (λ k. getD (writtenRecord bytes) k 0) ≡ 0
 record-longitudinal-sum bytes =
     sum-two-more (length bytes) _
     ∙ ap (λ (x : ℕ). xorSum (length bytes + 1) (λ k. getD (writtenRecord bytes) k 0) ⊕ x) (record-longitudinal bytes ∙ longitudinal-is bytes)
@@ -150,7 +150,7 @@ record-longitudinal-sum bytes =
 -- ---- of bytes
 
 -- a place of the record: of data, of the check character, of the longitudinal one
-places : (n k : ℕ) → k < n + 2 → (k < n) ⊎ ((k ≡ n) ⊎ (k ≡ n + 1))
+places : (n k : ℕ) → k < n + checks → (k < n) ⊎ ((k ≡ n) ⊎ (k ≡ n + 1))
 places n k h = by (decLt k n) (ℕ-discrete k n)
   where
     by : Dec (k < n) → Dec (k ≡ n) → (k < n) ⊎ ((k ≡ n) ⊎ (k ≡ n + 1))
@@ -176,9 +176,9 @@ module _ (bytes : List ℕ) (below : (k : ℕ) → getD bytes k 0 < 256) where
       by (no b) = let last : k ≡ length bytes = omega arith in rw last check-lt
 
   pub record-lt : (k : ℕ) → getD (writtenRecord bytes) k 0 < 512
-  record-lt k = by (decLt k (length bytes + 1)) (decLt k (length bytes + 2))
+  record-lt k = by (decLt k (length bytes + 1)) (decLt k (length bytes + checks))
     where
-      by : Dec (k < length bytes + 1) → Dec (k < length bytes + 2) → getD (writtenRecord bytes) k 0 < 512
+      by : Dec (k < length bytes + 1) → Dec (k < length bytes + checks) → getD (writtenRecord bytes) k 0 < 512
       by (yes b) d = front-lt k b
       by (no b) (yes c) =
           let last : k ≡ length bytes + 1 = omega arith in
@@ -203,7 +203,7 @@ module _ (bytes : List ℕ) (below : (k : ℕ) → getD bytes k 0 < 256) where
       (ap parity (record-check bytes) ∙ check-parity ∙ sym (odd-more (length bytes) 1 (lit< tt)))
       ∙ xor-cancel (length bytes % 2) 1
 
-  pub record-parity : (l : List ℕ) (k : ℕ) → k < length bytes + 2
+  pub record-parity : (l : List ℕ) (k : ℕ) → k < length bytes + checks
       → parity (getD (writtenRecord bytes) k 0) ≡ expectedParity (length bytes) l k
   unfolding expectedParity
   record-parity l k h = by (places (length bytes) k h)
@@ -236,7 +236,7 @@ module _ (bytes : List ℕ) (below : (k : ℕ) → getD bytes k 0 < 256) where
 -- ---- characters of which the data are odd, and the two sums right, are a written record
 
 module _ (bytes : List ℕ) (c : ℕ → ℕ) (data-are : (k : ℕ) → k < length bytes → characterOf (getD bytes k 0) ≡ c k)
-    (check-holds : checkSum (length bytes + 1) c ≡ offset) (sum-holds : xorSum (length bytes + 2) c ≡ 0) where
+    (check-holds : checkSum (length bytes + 1) c ≡ offset) (sum-holds : xorSum (length bytes + checks) c ≡ 0) where
   same-data : (k : ℕ) → k < length bytes → getD (writtenRecord bytes) k 0 ≡ c k
   same-data k h = record-data bytes k h ∙ data-are k h
 
@@ -261,25 +261,25 @@ module _ (bytes : List ℕ) (c : ℕ → ℕ) (data-are : (k : ℕ) → k < leng
       ∙ sum-ext (length bytes + 1) _ c same-front
       ∙ xor-zero→eq (xorSum (length bytes + 1) c) (c (length bytes + 1)) (sym (sum-two-more (length bytes) c) ∙ sum-holds)
 
-  same-character : (k : ℕ) → k < length bytes + 2 → getD (writtenRecord bytes) k 0 ≡ c k
+  same-character : (k : ℕ) → k < length bytes + checks → getD (writtenRecord bytes) k 0 ≡ c k
   same-character k h = by (decLt k (length bytes + 1))
     where
       by : Dec (k < length bytes + 1) → getD (writtenRecord bytes) k 0 ≡ c k
       by (yes b) = same-front k b
       by (no b) = let last : k ≡ length bytes + 1 = omega arith in rw last same-longitudinal
 
-  same-record : writtenRecord bytes ≡ tabulate (length bytes + 2) c
+  same-record : writtenRecord bytes ≡ tabulate (length bytes + checks) c
   same-record =
-      ext-getD 0 _ _ (length-record bytes ∙ sym (length-tabulate (length bytes + 2) c))
-      (λ k q. let h : k < length bytes + 2 = omega (arith, length-record bytes) in
-      same-character k h ∙ sym (getD-tabulate (length bytes + 2) c k 0 h))
+      ext-getD 0 _ _ (length-record bytes ∙ sym (length-tabulate (length bytes + checks) c))
+      (λ k q. let h : k < length bytes + checks = omega (arith, length-record bytes) in
+      same-character k h ∙ sym (getD-tabulate (length bytes + checks) c k 0 h))
 
-pub written-if : (n : ℕ) (c : ℕ → ℕ) → ((k : ℕ) → k < n + 2 → c k < 512) → ((k : ℕ) → k < n → parity (c k) ≡ 1)
-    → checkSum (n + 1) c ≡ offset → xorSum (n + 2) c ≡ 0 → writtenRecord (tabulate n (λ k. c k % 256)) ≡ tabulate (n + 2) c
+pub written-if : (n : ℕ) (c : ℕ → ℕ) → ((k : ℕ) → k < n + checks → c k < 512) → ((k : ℕ) → k < n → parity (c k) ≡ 1)
+    → checkSum (n + 1) c ≡ offset → xorSum (n + checks) c ≡ 0 → writtenRecord (tabulate n (λ k. c k % 256)) ≡ tabulate (n + checks) c
 written-if n c within odd check-holds sum-holds =
     same-record (tabulate n (λ k. c k % 256)) c character (ap (λ (m : ℕ). checkSum (m + 1) c) long ∙ check-holds)
-    (ap (λ (m : ℕ). xorSum (m + 2) c) long ∙ sum-holds)
-    ∙ ap (λ (m : ℕ). tabulate (m + 2) c) long
+    (ap (λ (m : ℕ). xorSum (m + checks) c) long ∙ sum-holds)
+    ∙ ap (λ (m : ℕ). tabulate (m + checks) c) long
   where
     long : length (tabulate n (λ k. c k % 256)) ≡ n
     long = length-tabulate n _

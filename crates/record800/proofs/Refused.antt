@@ -8,6 +8,7 @@ use Prim.Native.Nat.{ℕ, _-_}
 use native.Mathlib.Omega.{arith}
 use lib.ListN.{length}
 use Rattle.answer.specs.Answer.{refused}
+use Rattle.cyclic.specs.Constants.{checks}
 use Rattle.record800.specs.Fits.{Passes, Fits}
 use Rattle.record800.specs.Read.{picture, judgedAnswer}
 use Rattle.record800.proofs.Fitting.{fits-candidate, candidate-fits, bytes-apart}
@@ -16,7 +17,7 @@ use Rattle.answer.proofs.Apart.{not-both, same-number, same-place}
 
 module _ (backward : Bool) (characters : List ℕ) (passes : Passes backward characters) where
   abbrev n : ℕ
-  n = length characters - 2
+  n = length characters - checks
 
   abbrev l : List ℕ
   l = picture backward characters

@@ -2,10 +2,9 @@
 -- and a reading with no character changed is without damage (the notice, second term).
 -- Assumes nothing.
 use mathlib.Core.Path.{_≡_, sym, ap, ap₂, _∙_}
-use mathlib.Core.Bool.{Bool, false, _&&_}
+use mathlib.Core.Bool.{Bool, true, false, _&&_}
 use mathlib.Core.List.{List, [], _∷_}
 use Prim.Native.Nat.{ℕ, _+_, _-_, _≤_}
-use native.Mathlib.Nat.{le-of-eq}
 use native.Mathlib.Omega.{arith}
 use borrow.Author.Tests.{le-leb, le-ltb}
 use lib.Bits.{xor-self}
@@ -19,10 +18,11 @@ use Rattle.indexed.proofs.First.{first-none}
 use Rattle.register.specs.Bit.{bit}
 use Rattle.register.specs.Parity.{parity}
 use Rattle.register.specs.Xor.{_⊕_}
+use Rattle.cyclic.specs.Constants.{mostCharacter, leastData, mostData, checks, tracks}
 use Rattle.record800.specs.Fits.{IsData, Passes, Fits, charactersChanged}
-use Rattle.record800.specs.Read.{picture, expectedParity, wrong, wrongCount, judgedAnswer, readData, readAnswer, lengthSuits, firstStray}
+use Rattle.record800.specs.Read.{picture, expectedParity, wrong, wrongCount, judgedAnswer, readData, answerIf, readAnswer, lengthSuits, firstStray}
 use Rattle.record800.specs.Record.{writtenRecord}
-use Rattle.record800.proofs.Answer.{all-passed}
+use Rattle.record800.proofs.Answer.{passed-judged}
 use Rattle.record800.proofs.Candidate.{total-of-zeros}
 use Rattle.record800.proofs.Fitting.{fits-candidate, fits-delivered, delivered-fits}
 use Rattle.record800.proofs.Recorded.{length-record, record-lt, record-parity}
@@ -36,12 +36,12 @@ module _ (bytes : List ℕ) (is-data : IsData bytes) where
   characters = writtenRecord bytes
 
   abbrev n : ℕ
-  n = length characters - 2
+  n = length characters - checks
 
   abbrev l : List ℕ
   l = picture false characters
 
-  long : length characters ≡ length bytes + 2
+  long : length characters ≡ length bytes + checks
   long = length-record bytes
 
   character : (k : ℕ) → getD l k 0 ≡ getD characters k 0
@@ -51,11 +51,11 @@ module _ (bytes : List ℕ) (is-data : IsData bytes) where
   unfolding lengthSuits firstStray firstAbove
   passes = record {
     lengths =
-        ap₂ _&&_ (le-leb 3 (length characters) (omega (arith, long, is-data .some)))
-        (le-leb (length characters) 2050 (omega (arith, long, is-data .within)));
+        ap₂ _&&_ (le-leb (leastData + checks) (length characters) (omega (arith, long, is-data .some)))
+        (le-leb (length characters) (mostData + checks) (omega (arith, long, is-data .within)));
     no-stray =
-        first-none (λ v. ltb 511 v) l (length characters) (sym (length-picture false characters))
-        (λ k h. le-ltb 511 (getD l k 0) (omega (arith, character k, record-lt bytes (is-data .are-bytes) k)));
+        first-none (λ v. ltb mostCharacter v) l (length characters) (sym (length-picture false characters))
+        (λ k h. le-ltb mostCharacter (getD l k 0) (omega (arith, character k, record-lt bytes (is-data .are-bytes) k)));
   }
 
   itself-fits : Fits false characters bytes
@@ -71,18 +71,18 @@ module _ (bytes : List ℕ) (is-data : IsData bytes) where
   unfolding wrongCount wrong
   none-wrong =
       let many : length bytes ≡ n = omega (arith, long) in
-      total-of-zeros (n + 2) _
+      total-of-zeros (n + checks) _
       (λ k h. ap (λ (p : ℕ). p ⊕ expectedParity n l k)
       (ap parity (character k)
       ∙ record-parity bytes (is-data .are-bytes) l k (omega arith)
       ∙ ap (λ (m : ℕ). expectedParity m l k) many)
       ∙ xor-self (expectedParity n l k))
 
-  delivered-clean : judgedAnswer n l ≡ delivered (length bytes ∷ 9 ∷ 0 ∷ [])
+  delivered-clean : judgedAnswer n l ≡ delivered (length bytes ∷ tracks ∷ 0 ∷ [])
   delivered-clean = by (judged n l)
     where
-      by : Judged n l (judgedAnswer n l) → judgedAnswer n l ≡ delivered (length bytes ∷ 9 ∷ 0 ∷ [])
-      by (clean w h a) = let many : n ≡ length bytes = omega (arith, long) in a ∙ ap (λ (m : ℕ). delivered (m ∷ 9 ∷ 0 ∷ [])) many
+      by : Judged n l (judgedAnswer n l) → judgedAnswer n l ≡ delivered (length bytes ∷ tracks ∷ 0 ∷ [])
+      by (clean w h a) = let many : n ≡ length bytes = omega (arith, long) in a ∙ ap (λ (m : ℕ). delivered (m ∷ tracks ∷ 0 ∷ [])) many
       by (one some j b h alone a) = absurd (omega (arith, none-wrong))
       by (several some i j h b r q a) = absurd (omega (arith, none-wrong))
       by (none nothing a) =
@@ -96,9 +96,13 @@ module _ (bytes : List ℕ) (is-data : IsData bytes) where
   pub undamaged-data : readData false characters ≡ bytes
   undamaged-data = fits-delivered false characters passes bytes itself-fits only-itself .1
 
-  pub undamaged-answer : (space : ℕ) → length characters - 2 ≤ space → readAnswer false characters space ≡ delivered (length bytes ∷ 9 ∷ 0 ∷ [])
-  undamaged-answer space enough =
-      all-passed false characters space (passes .lengths) enough (le-of-eq (sym (passes .no-stray))) ∙ delivered-clean
+  pub undamaged-if : (enough : Bool) → enough ≡ true → answerIf false characters enough ≡ delivered (length bytes ∷ tracks ∷ 0 ∷ [])
+  undamaged-if enough some = passed-judged false characters enough passes some ∙ delivered-clean
+
+  pub undamaged-answer : (space : ℕ) → length characters - checks ≤ space
+      → readAnswer false characters space ≡ delivered (length bytes ∷ tracks ∷ 0 ∷ [])
+  unfolding readAnswer
+  undamaged-answer space enough = undamaged-if _ (le-leb _ _ enough)
 
 -- a written record has one list of data: they are read from it
 pub one-data : (bytes others : List ℕ) → IsData bytes → IsData others → writtenRecord bytes ≡ writtenRecord others → bytes ≡ others

@@ -80,11 +80,16 @@ firstStray backward characters = firstAbove mostCharacter (picture backward char
 unfoldable pub readData : Bool → List ℕ → List ℕ
 readData backward characters = judgedData (length characters - checks) (picture backward characters)
 
-unfoldable pub readAnswer : Bool → List ℕ → ℕ → Answer
-readAnswer backward characters space =
+-- The answer, if space is enough or not: a call says what that is of its output.
+unfoldable pub answerIf : Bool → List ℕ → Bool → Answer
+answerIf backward characters enough =
     cond (lengthSuits (length characters))
-    (cond (leb (length characters - checks) space)
+    (cond enough
     (cond (ltb (firstStray backward characters) (length characters)) (refusedFor StrayBits (firstStray backward characters))
     (judgedAnswer (length characters - checks) (picture backward characters)))
     (refusedFor Space 0))
     (refusedFor Length 0)
+
+-- a reader's output has space for the data characters
+unfoldable pub readAnswer : Bool → List ℕ → ℕ → Answer
+readAnswer backward characters space = answerIf backward characters (leb (length characters - checks) space)

@@ -72,7 +72,7 @@ listed-800 bound n characters =
     (λ t. listed-one-of bound n characters _)
 
 listed-read : (r : Reading) (space : ℕ) → Listed (places (read r)) (readAnswer r space)
-unfolding readAnswer places six.readAnswer six.answerIf eight.readAnswer
+unfolding readAnswer places six.readAnswer six.answerIf eight.readAnswer eight.answerIf
 listed-read (at6250 backward words maps) space =
     first-rows (length maps) (six.lengthsSuit (length words) (length maps)) (leb (7 * length maps - 1) space) _
     (λ s. third-row (length maps) (six.firstStray backward words maps) (length maps) (omega arith) _ (listed-6250 backward words maps))

@@ -33,5 +33,5 @@ use Rattle.terms.specs.Starred.{lent, answered, leaves, Row, row, made, 
 
 pub starred-hold : (map (λ (r : Row). answered (r .asked)) starred ≡ map (λ (r : Row). r .answer) starred)
     × (map (λ (r : Row). leaves (r .asked)) starred ≡ map (λ (r : Row). r .output) starred)
-unfolding starred written row made readings group6250 characters800 rowOf lent answered leaves answerTo resultOf Reading.turned Reading.writtenRecord Reading.readAnswer Reading.readData turnedNumbers turnedGroup pictureMaps eightWritten.writeAnswer eight.writtenRecord eight.withCheck eight.longitudinal eight.checkCharacter held eight.characterOf eightRead.readAnswer eightRead.readData eightRead.firstStray eightRead.lengthSuits eightRead.judgedData eightRead.judgedAnswer eightRead.oneOf eightRead.holds eightRead.candidate eightRead.wrongCount eightRead.wrongParity eightRead.longitudinalRead eightRead.errorPattern eightRead.checkRead eightRead.wrong eightRead.expectedParity eightRead.picture firstAbove parity parityDigits outputAfter writeAnswer writtenRecord firstGroups groupWords groupBytes groupsFor body padding readAnswer answerIf judgedAnswer changes readData readBody firstUnfit firstStray changedTracks judgement readMap readGroup unpadded paddingSuits lastByte lengthsSuit mapRead groupRead groupLent readNumbers wordsFrom numbersFrom numbersAt rightWords wordsOf wordOn valueOn rightBytes reasonOf rightValues isCorrected judgedGroup relied reliedOn illegalMap strayAt strayNumbers changedMap judged without errorsOf twoErrors oneError firstAccounting errorAt secondError erasure weighed checkSyndrome paritySyndrome pointedTracks group track column character check information informationOf forwardWord reversedWord mirrored illegality valueOf legalWord legal decoded xorSum shift shifts bit ofBits tabulate tabulateFrom blocks firstWhere below firstBelow keep turnedPlace total ones onesIn
+unfolding starred written row made readings group6250 characters800 rowOf lent answered leaves answerTo resultOf Reading.turned Reading.writtenRecord Reading.readAnswer Reading.readData turnedNumbers turnedGroup pictureMaps eightWritten.writeAnswer eight.writtenRecord eight.withCheck eight.longitudinal eight.checkCharacter held eight.characterOf eightRead.readAnswer eightRead.answerIf eightRead.readData eightRead.firstStray eightRead.lengthSuits eightRead.judgedData eightRead.judgedAnswer eightRead.oneOf eightRead.holds eightRead.candidate eightRead.wrongCount eightRead.wrongParity eightRead.longitudinalRead eightRead.errorPattern eightRead.checkRead eightRead.wrong eightRead.expectedParity eightRead.picture firstAbove parity parityDigits outputAfter writeAnswer writtenRecord firstGroups groupWords groupBytes groupsFor body padding readAnswer answerIf judgedAnswer changes readData readBody firstUnfit firstStray changedTracks judgement readMap readGroup unpadded paddingSuits lastByte lengthsSuit mapRead groupRead groupLent readNumbers wordsFrom numbersFrom numbersAt rightWords wordsOf wordOn valueOn rightBytes reasonOf rightValues isCorrected judgedGroup relied reliedOn illegalMap strayAt strayNumbers changedMap judged without errorsOf twoErrors oneError firstAccounting errorAt secondError erasure weighed checkSyndrome paritySyndrome pointedTracks group track column character check information informationOf forwardWord reversedWord mirrored illegality valueOf legalWord legal decoded xorSum shift shifts bit ofBits tabulate tabulateFrom blocks firstWhere below firstBelow keep turnedPlace total ones onesIn
 starred-hold = (refl, refl)

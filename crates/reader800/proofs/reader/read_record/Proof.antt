@@ -1,13 +1,11 @@
--- `reader800::reader::read` meets its contract: each check is the definition's.
+-- `reader800::reader::read_record` meets its contract: each check is the definition's.
 -- Assumes nothing.
-use mathlib.Core.Path.{_≡_, refl, sym, ap, ap₂, _∙_}
-use mathlib.Core.Bool.{Bool, true, false, not}
+use mathlib.Core.Path.{refl, sym, ap, ap₂, _∙_}
 use mathlib.Core.List.{List, _++_}
 use Prim.Native.Nat.{ℕ}
-use native.Mathlib.Nat.{le-of-eq}
 use native.Mathlib.Omega.{arith}
 use borrow.Author.Needs.{needs}
-use borrow.Author.Tests.{leb-true}
+use borrow.Author.Tests.{le-leb, lt-leb, leb-true, not-true, not-false}
 use denote.Ref.{now}
 use lib.ListN.{length, drop}
 use Rattle.answer.specs.Answer.{refusedFor, outputAfter}
@@ -15,19 +13,11 @@ use Rattle.answer.specs.declared.Reason.the-variants.{StrayBits}
 use Rattle.record800.specs.Read.{readData, lengthSuits}
 use Rattle.reader800.specs.Told.{toldRead}
 use Rattle.record800.proofs.Candidate.{both-true}
-use Rattle.record800.proofs.Answer.{length-refused, space-refused, stray-refused, all-passed, passed, length-data}
+use Rattle.record800.proofs.Answer.{length-refused, space-refused, stray-refused, passed-judged, passed, length-data}
+use Rattle.reader800.proofs.Answering.{promised, refuses}
 use Rattle.reader800.proofs.Deciding.{told-data}
-use Rattle.reader800.proofs.reader.read.Statement.{statement}
-use Rattle.reader800.proofs.reader.read.Tie as tie
-
--- what the test of the length says
-unsuited : {suits : Bool} (told : Bool) → told ≡ suits → not told ≡ true → suits ≡ false
-unsuited true e t = sym e ∙ sym t
-unsuited false e t = sym e
-
-suited : {suits : Bool} (told : Bool) → told ≡ suits → not told ≡ false → suits ≡ true
-suited true e t = sym e
-suited false e t = sym e ∙ sym t
+use Rattle.reader800.proofs.reader.read_record.Statement.{statement}
+use Rattle.reader800.proofs.reader.read_record.Tie as tie
 
 length-suits-requires : tie.Need-length-suits-requires
 length-suits-requires c κs = search needs
@@ -36,26 +26,24 @@ refused-requires : tie.Need-refused-requires
 refused-requires c κs = search needs
 
 returns : tie.Need-returns
-unfolding outputAfter
 returns c =
-    let told = c .refused .ensures in
-    (told ∙ sym (length-refused _ _ _ (unsuited _ (c .before .before .length-suits .ensures) (c .before .if1 .taken))), rw told)
+    let unsuited = sym (c .before .before .length-suits .ensures) ∙ not-true _ (c .before .if1 .taken) in
+    refuses _ _ _ _ _ _ (c .refused .ensures) (length-refused _ _ _ unsuited)
 
 sub-if2 : tie.Need-sub-if2
 unfolding lengthSuits
 sub-if2 c =
-    let count = length (now (c .before .before .before .before .args .characters)) in
-    omega (arith, leb-true 3 count (both-true _ _ (suited _ (c .before .length-suits .ensures) (c .if1 .left)) .0))
+    let suits = sym (c .before .length-suits .ensures) ∙ not-false _ (c .if1 .left) in
+    omega (arith, leb-true 3 (length (now (c .before .before .before .before .args .characters))) (both-true _ _ suits .0))
 
 refused-requires-2 : tie.Need-refused-requires-2
 refused-requires-2 c κs = search needs
 
 returns-2 : tie.Need-returns-2
-unfolding outputAfter
 returns-2 c =
     let length-test = c .before .before in
-    let told = c .refused2 .ensures in
-    (told ∙ sym (space-refused _ _ _ (suited _ (length-test .before .length-suits .ensures) (length-test .if1 .left)) (c .before .if2 .taken)), rw told)
+    let suits = sym (length-test .before .length-suits .ensures) ∙ not-false _ (length-test .if1 .left) in
+    refuses _ _ _ _ _ _ (c .refused2 .ensures) (space-refused _ _ _ suits (lt-leb _ _ (c .before .if2 .taken)))
 
 first-stray-requires : tie.Need-first-stray-requires
 first-stray-requires c κs = search needs
@@ -64,14 +52,13 @@ refused-requires-3 : tie.Need-refused-requires-3
 refused-requires-3 c κs = search needs
 
 returns-3 : tie.Need-returns-3
-unfolding outputAfter
 returns-3 c =
     let stray = c .before .before in
     let length-test = stray .before .before in
-    let told = c .refused3 .ensures in
-    let answer = stray-refused _ _ _ (suited _ (length-test .before .length-suits .ensures) (length-test .if1 .left)) (stray .before .if2 .left)
-    (rw (stray .first-stray .ensures) at (c .before .if3 .taken)) in
-    (told ∙ ap (refusedFor StrayBits) (stray .first-stray .ensures) ∙ sym answer, rw told)
+    let suits = sym (length-test .before .length-suits .ensures) ∙ not-false _ (length-test .if1 .left) in
+    let found = rw (stray .first-stray .ensures) at (c .before .if3 .taken) in
+    refuses _ _ _ _ _ _ (c .refused3 .ensures ∙ ap (refusedFor StrayBits) (stray .first-stray .ensures))
+    (stray-refused _ _ _ suits (le-leb _ _ (stray .before .if2 .left)) found)
 
 parities-requires : tie.Need-parities-requires
 parities-requires c κs = search needs
@@ -82,11 +69,9 @@ slice-aggregate-decided c = search needs
 decided-requires : tie.Need-decided-requires
 decided-requires c κs =
     let stray = c .before .before .before in
-    let length-test = stray .before .before in (
-      passed _ _ (suited _ (length-test .before .length-suits .ensures) (length-test .if1 .left))
-          (rw (stray .first-stray .ensures) at (c .before .before .if3 .left)),
-      search needs,
-    )
+    let length-test = stray .before .before in
+    let suits = sym (length-test .before .length-suits .ensures) ∙ not-false _ (length-test .if1 .left) in
+    (passed _ _ suits (rw (stray .first-stray .ensures) at (c .before .before .if3 .left)), search needs)
 
 enum-known-figures : tie.Need-enum-known-figures
 enum-known-figures c = search needs
@@ -116,24 +101,25 @@ unfolding outputAfter readData
 returns-4 c =
     let figures = c .before .before .before .before .before .before in
     let decided = figures .before .before in
-    let passes = decided-requires (decided .before) (decided .decided .lifetimes) .0 in
+    let space-test = decided .before .before .before .before .before in
     let told = sym (ap toldRead (figures .figures .given .1)) ∙ decided .decided .ensures in
-    let output = now (decided .before .before .before .before .before .before .before .before .before .before .args .output) in (
-      told ∙ sym (all-passed _ _ _ (passes .lengths) (decided .before .before .before .before .before .if2 .left) (le-of-eq (sym (passes .no-stray)))),
-      c .before .before .store .ensures
-          ∙ ap₂ (λ (m : List ℕ) (k : ℕ). m ++ drop k output) (told-data _ _ _ _ _ told .1) (sym (length-data _ _)),
-    )
+    let passes = decided-requires (decided .before) (decided .decided .lifetimes) .0 in
+    let output = now (space-test .before .before .before .before .before .args .output) in
+    promised _ _ _ _ _ (told ∙ sym (passed-judged _ _ _ passes (le-leb _ _ (space-test .if2 .left))))
+    (c .before .before .store .ensures
+    ∙ ap₂ (λ (m : List ℕ) (k : ℕ). m ++ drop k output) (told-data _ _ _ _ _ told .1) (sym (length-data _ _)))
 
 returns-5 : tie.Need-returns-5
 unfolding outputAfter
 returns-5 c =
     let decided = c .before .before .before in
-    let passes = decided-requires (decided .before) (decided .decided .lifetimes) .0 in
     let told = sym (ap toldRead (c .before .refusal .given .1)) ∙ decided .decided .ensures in
-    (told ∙ sym (all-passed _ _ _ (passes .lengths) (decided .before .before .before .before .before .if2 .left) (le-of-eq (sym (passes .no-stray)))), refl)
+    let passes = decided-requires (decided .before) (decided .decided .lifetimes) .0 in
+    let judged = passed-judged _ _ _ passes (le-leb _ _ (decided .before .before .before .before .before .if2 .left)) in
+    refuses _ _ _ _ _ _ refl (judged ∙ sym told)
 
-pub read-spec : {M : Type 1} → statement M
-read-spec =
+pub read-record-spec : {M : Type 1} → statement M
+read-record-spec =
     tie.close
     (tie.spec
     length-suits-requires
