@@ -7,15 +7,12 @@ use crate::corrected::padding_suits;
 use crate::corrected::unpack;
 use answer::Reason;
 use answer::Refusal;
-use group_code::backward_readings;
-use group_code::forward_readings;
 use judge6250::judge::Judged;
 use reading6250::first_group;
 use reading6250::first_stray;
 use reading6250::judge_at;
 use reading6250::next_group;
 use rectangular::Code6250;
-ghost use mathlib.Core.Bool.{true, false};
 ghost use mathlib.Core.List.{_++_};
 ghost use mathlib.Core.Path.{_≡_};
 ghost use Prim.Native.Nat.{_-_, _*_, _≤_};
@@ -26,9 +23,6 @@ ghost use Rattle.answer.specs.Answer.{refusedFor, outputAfter};
 ghost use Rattle.record6250.specs.Fits.{Passes};
 ghost use Rattle.record6250.specs.Read.{firstUnfit, readBody, readData, judgedAnswer, readAnswer, lengthsSuit, unpadded};
 ghost use Rattle.reader6250.specs.Told.{toldRead, toldScan, scanAnswer, paddingAnswer};
-ghost use Rattle.terms.specs.Call as Call;
-ghost use Rattle.terms.specs.Reading.{at6250};
-ghost use Rattle.terms.specs.Terms.{Terms};
 
 // A record of so few groups is short.
 const SHORT: usize = 64;
@@ -139,7 +133,13 @@ fn lengths_suit(words: usize, maps: usize) -> bool
 
 // Reads a record, forward or backward, with the table of that direction. A short record takes a small
 // array, since an array is cleared.
-fn read(words: &[u16], maps: &[u16], backward: bool, table: &[u16], output: &mut [u8]) -> Read
+pub(crate) fn read_with(
+    words: &[u16],
+    maps: &[u16],
+    backward: bool,
+    table: &[u16],
+    output: &mut [u8],
+) -> Read
     requires { ⌜ now table ≡ readings backward ⌝ }
     ensures answer { λ r. ⌜ toldRead r ≡ readAnswer backward (now (words .entry)) (now (maps .entry)) (length (now (output .entry))) ⌝ }
     ensures output { λ r. ⌜ now (output .exit) ≡ outputAfter (toldRead r) (readData backward (now (words .entry)) (now (maps .entry))) (now (output .entry)) ⌝ }
@@ -161,24 +161,4 @@ fn read(words: &[u16], maps: &[u16], backward: bool, table: &[u16], output: &mut
     }
     let mut body = [0u8; Code6250::MOST_BODY];
     read_within(words, maps, backward, table, &mut body, output)
-}
-
-// Reads a record forward: the words of each group, tracks 0 to 8, and a pointer map for each.
-pub fn read_forward(words: &[u16], maps: &[u16], output: &mut [u8]) -> Read
-    ensures answer { λ r. ⌜ toldRead r ≡ readAnswer false (now (words .entry)) (now (maps .entry)) (length (now (output .entry))) ⌝ }
-    ensures output { λ r. ⌜ now (output .exit) ≡ outputAfter (toldRead r) (readData false (now (words .entry)) (now (maps .entry))) (now (output .entry)) ⌝ }
-    ensures terms { λ r. ⌜ Terms (Call.read (at6250 false (now (words .entry)) (now (maps .entry)))) (toldRead r) (now (output .entry)) (now (output .exit)) ⌝ }
-{
-    let table = forward_readings();
-    read(words, maps, false, &table, output)
-}
-
-// Reads a record that passed the head backward: groups and maps last first, each word's bits reversed.
-pub fn read_backward(words: &[u16], maps: &[u16], output: &mut [u8]) -> Read
-    ensures answer { λ r. ⌜ toldRead r ≡ readAnswer true (now (words .entry)) (now (maps .entry)) (length (now (output .entry))) ⌝ }
-    ensures output { λ r. ⌜ now (output .exit) ≡ outputAfter (toldRead r) (readData true (now (words .entry)) (now (maps .entry))) (now (output .entry)) ⌝ }
-    ensures terms { λ r. ⌜ Terms (Call.read (at6250 true (now (words .entry)) (now (maps .entry)))) (toldRead r) (now (output .entry)) (now (output .exit)) ⌝ }
-{
-    let table = backward_readings();
-    read(words, maps, true, &table, output)
 }

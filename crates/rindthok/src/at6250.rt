@@ -1,11 +1,14 @@
 // Records at 6250 for C.
 use crate::refused_status;
-use answer::Written;
+use crate::written_status;
+use group_code::backward_readings;
+use group_code::forward_readings;
 use reader6250::Read;
 ghost use mathlib.Core.Bool.{true, false};
 ghost use mathlib.Core.List.{[], _∷_};
+ghost use mathlib.Core.Path.{_≡_};
+ghost use Rattle.group_code.specs.Word.{readings};
 ghost use Rattle.reader6250.specs.Told.{toldRead};
-ghost use Rattle.answer.specs.Answer.{toldWritten};
 ghost use Rattle.terms.specs.Call as Call;
 ghost use Rattle.terms.specs.Reading.{bpi6250, at6250};
 ghost use Rattle.rindthok.specs.Called.{Told, Called};
@@ -35,12 +38,8 @@ pub extern "C" fn rindthok_read6250_forward(
 ) -> u16
     ensures { λ r. ⌜ Called (Call.read (at6250 false (now (words .entry)) (now (maps .entry)))) (now (output .entry)) (now (output .exit)) (now (size .entry) ∷ now (changes .entry) ∷ []) (now (size .exit) ∷ now (changes .exit) ∷ []) r (now (place .exit)) ⌝ }
 {
-    read_status(
-        reader6250::read_forward(words, maps, output),
-        size,
-        changes,
-        place,
-    )
+    let table = forward_readings();
+    read_record(words, maps, false, &table, output, size, changes, place)
 }
 
 // Reads a 6250 record backward, and stores the same.
@@ -55,12 +54,26 @@ pub extern "C" fn rindthok_read6250_backward(
 ) -> u16
     ensures { λ r. ⌜ Called (Call.read (at6250 true (now (words .entry)) (now (maps .entry)))) (now (output .entry)) (now (output .exit)) (now (size .entry) ∷ now (changes .entry) ∷ []) (now (size .exit) ∷ now (changes .exit) ∷ []) r (now (place .exit)) ⌝ }
 {
-    read_status(
-        reader6250::read_backward(words, maps, output),
-        size,
-        changes,
-        place,
-    )
+    let table = backward_readings();
+    read_record(words, maps, true, &table, output, size, changes, place)
+}
+
+// Reads a 6250 record by the table of its direction, which each call for C names itself (decision D12).
+fn read_record(
+    words: &[u16],
+    maps: &[u16],
+    backward: bool,
+    table: &[u16],
+    output: &mut [u8],
+    size: &mut usize,
+    changes: &mut usize,
+    place: &mut usize,
+) -> u16
+    requires { ⌜ now table ≡ readings backward ⌝ }
+    ensures { λ r. ⌜ Called (Call.read (at6250 backward (now (words .entry)) (now (maps .entry)))) (now (output .entry)) (now (output .exit)) (now (size .entry) ∷ now (changes .entry) ∷ []) (now (size .exit) ∷ now (changes .exit) ∷ []) r (now (place .exit)) ⌝ }
+{
+    let answer = reader6250::read_by(words, maps, backward, table, output);
+    read_status(answer, size, changes, place)
 }
 
 // The answer for a reading as numbers.
@@ -75,19 +88,5 @@ fn read_status(answer: Read, size: &mut usize, changes: &mut usize, place: &mut 
             0
         }
         Read::Refused(refusal) => refused_status(refusal, place),
-    }
-}
-
-// The answer for a written record as numbers.
-fn written_status(answer: Written, groups: &mut usize, place: &mut usize) -> u16
-    ensures { λ r. ⌜ Told (toldWritten answer) (now (groups .entry) ∷ []) (now (groups .exit) ∷ []) r (now (place .exit)) ⌝ }
-{
-    match answer {
-        Written::Delivered(count) => {
-            *groups = count;
-            *place = 0;
-            0
-        }
-        Written::Refused(refusal) => refused_status(refusal, place),
     }
 }

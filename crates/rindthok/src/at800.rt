@@ -1,11 +1,10 @@
 // Records at 800 for C.
 use crate::refused_status;
-use answer::Written;
+use crate::written_status;
 use reader800::Read;
 ghost use mathlib.Core.Bool.{true, false};
 ghost use mathlib.Core.List.{[], _∷_};
 ghost use Rattle.reader800.specs.Told.{toldRead};
-ghost use Rattle.answer.specs.Answer.{toldWritten};
 ghost use Rattle.terms.specs.Call as Call;
 ghost use Rattle.terms.specs.Reading.{bpi800, at800};
 ghost use Rattle.rindthok.specs.Called.{Told, Called};
@@ -35,13 +34,7 @@ pub extern "C" fn rindthok_read800_forward(
 ) -> u16
     ensures { λ r. ⌜ Called (Call.read (at800 false (now (characters .entry)))) (now (output .entry)) (now (output .exit)) (now (size .entry) ∷ now (track .entry) ∷ now (changes .entry) ∷ []) (now (size .exit) ∷ now (track .exit) ∷ now (changes .exit) ∷ []) r (now (place .exit)) ⌝ }
 {
-    read_status(
-        reader800::read_forward(characters, output),
-        size,
-        track,
-        changes,
-        place,
-    )
+    read_record(characters, false, output, size, track, changes, place)
 }
 
 // Reads an 800 record backward, and stores the same.
@@ -56,13 +49,23 @@ pub extern "C" fn rindthok_read800_backward(
 ) -> u16
     ensures { λ r. ⌜ Called (Call.read (at800 true (now (characters .entry)))) (now (output .entry)) (now (output .exit)) (now (size .entry) ∷ now (track .entry) ∷ now (changes .entry) ∷ []) (now (size .exit) ∷ now (track .exit) ∷ now (changes .exit) ∷ []) r (now (place .exit)) ⌝ }
 {
-    read_status(
-        reader800::read_backward(characters, output),
-        size,
-        track,
-        changes,
-        place,
-    )
+    read_record(characters, true, output, size, track, changes, place)
+}
+
+// Reads an 800 record in a direction.
+fn read_record(
+    characters: &[u16],
+    backward: bool,
+    output: &mut [u8],
+    size: &mut usize,
+    track: &mut usize,
+    changes: &mut usize,
+    place: &mut usize,
+) -> u16
+    ensures { λ r. ⌜ Called (Call.read (at800 backward (now (characters .entry)))) (now (output .entry)) (now (output .exit)) (now (size .entry) ∷ now (track .entry) ∷ now (changes .entry) ∷ []) (now (size .exit) ∷ now (track .exit) ∷ now (changes .exit) ∷ []) r (now (place .exit)) ⌝ }
+{
+    let answer = reader800::read_record(characters, backward, output);
+    read_status(answer, size, track, changes, place)
 }
 
 // The answer for a reading as numbers.
@@ -84,19 +87,5 @@ fn read_status(
             0
         }
         Read::Refused(refusal) => refused_status(refusal, place),
-    }
-}
-
-// The answer for a written record as numbers.
-fn written_status(answer: Written, count: &mut usize, place: &mut usize) -> u16
-    ensures { λ r. ⌜ Told (toldWritten answer) (now (count .entry) ∷ []) (now (count .exit) ∷ []) r (now (place .exit)) ⌝ }
-{
-    match answer {
-        Written::Delivered(characters) => {
-            *count = characters;
-            *place = 0;
-            0
-        }
-        Written::Refused(refusal) => refused_status(refusal, place),
     }
 }

@@ -6,9 +6,10 @@ mod at800;
 mod order;
 
 use answer::Refusal;
-ghost use mathlib.Core.List.{List};
+use answer::Written;
+ghost use mathlib.Core.List.{List, [], _∷_};
 ghost use Prim.Native.Nat.{ℕ};
-ghost use Rattle.answer.specs.Answer.{toldRefusal};
+ghost use Rattle.answer.specs.Answer.{toldRefusal, toldWritten};
 ghost use Rattle.rindthok.specs.Called.{Told};
 
 // A refusal as numbers: whatever figures there are, they stay.
@@ -18,4 +19,18 @@ fn refused_status(refusal: Refusal, place: &mut usize) -> u16
     *place = refusal.place;
     let reason = refusal.reason;
     reason.number()
+}
+
+// The answer for a written record as numbers, at either density: what is counted is its groups or its characters.
+fn written_status(answer: Written, count: &mut usize, place: &mut usize) -> u16
+    ensures { λ r. ⌜ Told (toldWritten answer) (now (count .entry) ∷ []) (now (count .exit) ∷ []) r (now (place .exit)) ⌝ }
+{
+    match answer {
+        Written::Delivered(number) => {
+            *count = number;
+            *place = 0;
+            0
+        }
+        Written::Refused(refusal) => refused_status(refusal, place),
+    }
 }

@@ -1,4 +1,4 @@
--- `reader6250::reader::read` meets its contract: each check is the definition's.
+-- `reader6250::reader::read_with` meets its contract: each check is the definition's.
 -- Assumes nothing.
 use mathlib.Core.Path.{sym, ap, _∙_}
 use native.Mathlib.Omega.{arith}
@@ -11,8 +11,8 @@ use Rattle.record6250.specs.Read.{readData}
 use Rattle.record6250.proofs.Answer.{length-refused, space-refused, stray-refused, all-passed, passed}
 use Rattle.record6250.proofs.Reading.{lengths-told}
 use borrow.Author.Needs.{needs}
-use Rattle.reader6250.proofs.reader.read.Statement.{statement}
-use Rattle.reader6250.proofs.reader.read.Tie as tie
+use Rattle.reader6250.proofs.reader.read_with.Statement.{statement}
+use Rattle.reader6250.proofs.reader.read_with.Tie as tie
 use borrow.Author.Tests.{not-true, not-false}
 
 lengths-suit-requires : tie.Need-lengths-suit-requires
@@ -145,8 +145,8 @@ returns-5 c =
     let told = c .before .before .before .read-within2 .ensures in
     (told .0 ∙ sym (all-passed b words maps space suits (omega (arith, c .before .before .before .before .before .before .before .before .before .if2 .left)) none), told .1)
 
-pub read-spec : {M : Type 1} → statement M
-read-spec =
+pub read-with-spec : {M : Type 1} → statement M
+read-with-spec =
     tie.close
     (tie.spec
     lengths-suit-requires

@@ -1,8 +1,8 @@
--- `rindthok::at6250::written_status` meets its contract, by the cases of the answer.
+-- `rindthok::written_status` meets its contract, by the cases of the answer.
 -- Assumes nothing.
 use borrow.Author.Needs.{needs}
-use Rattle.rindthok.proofs.at6250.written_status.Statement.{statement}
-use Rattle.rindthok.proofs.at6250.written_status.Tie as tie
+use Rattle.rindthok.proofs.written_status.Statement.{statement}
+use Rattle.rindthok.proofs.written_status.Tie as tie
 
 enum-known-answer : tie.Need-enum-known-answer
 enum-known-answer c = search needs
