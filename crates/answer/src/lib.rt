@@ -1,7 +1,7 @@
 // How a call answers: a delivery, or a refusal with its number and its place (document 01, "Where a
 // call is turned down"). "Delivered", "refused" and "place" are that paper's terms.
 ghost use mathlib.Core.Path.{_≡_};
-ghost use Rattle.answer.specs.Answer.{numberOf};
+ghost use Rattle.answer.specs.Answer.{numberOf, refusedFor, toldWritten};
 
 // Why a call is refused, in the order of document 01's table.
 pub enum Reason {
@@ -51,4 +51,13 @@ pub struct Refusal {
 pub enum Written {
     Delivered(usize),
     Refused(Refusal),
+}
+
+impl Written {
+    // A refusal of a writer, which has no place.
+    pub fn refused(reason: Reason) -> Written
+        ensures { λ r. ⌜ toldWritten r ≡ refusedFor reason 0 ⌝ }
+    {
+        Written::Refused(Refusal { reason, place: 0 })
+    }
 }

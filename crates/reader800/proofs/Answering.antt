@@ -2,14 +2,14 @@
 -- Assumes nothing.
 use mathlib.Core.Bool.{Bool}
 use mathlib.Core.List.{List}
-use mathlib.Core.Path.{_≡_, sym, ap, _∙_}
+use mathlib.Core.Path.{_≡_}
 use Prim.Native.Nat.{ℕ, _-_}
 use lib.Dec.{leb}
 use lib.ListN.{length}
 use Rattle.answer.specs.Answer.{Answer, refused, outputAfter}
 use Rattle.cyclic.specs.Constants.{checks}
 use Rattle.record800.specs.Read as Read
-use Rattle.terms.proofs.Terms.{with-terms}
+use Rattle.terms.proofs.Terms.{with-terms, refused-with-terms}
 use Rattle.terms.specs.Call.{read, answerTo, resultOf}
 use Rattle.terms.specs.Reading.{at800, readAnswer, readData}
 use Rattle.terms.specs.Terms.{Terms}
@@ -28,5 +28,5 @@ module _ (backward : Bool) (characters : List ℕ) (told : Answer) (before : Lis
   -- a refusal leaves the output
   pub refuses : (number place : ℕ) → told ≡ refused number place
       → Read.answerIf backward characters (leb (length characters - checks) (length before)) ≡ refused number place → Promised before
-  unfolding outputAfter
-  refuses number place tells is = promised before (tells ∙ sym is) (sym (ap (λ (a : Answer). outputAfter a (Read.readData backward characters) before) tells))
+  unfolding answerTo resultOf readAnswer readData Read.readAnswer
+  refuses number place tells is = refused-with-terms told before (read (at800 backward characters)) number place tells is

@@ -1,10 +1,10 @@
 -- The notice's three terms hold of every call whose answer and output are those that its definitions give: what each contract states.
 -- Assumes nothing.
 use mathlib.Core.List.{List, []}
-use mathlib.Core.Path.{_≡_, refl}
+use mathlib.Core.Path.{_≡_, refl, sym, ap, _∙_}
 use Prim.Native.Nat.{ℕ}
 use lib.ListN.{length}
-use Rattle.answer.specs.Answer.{Answer, outputAfter}
+use Rattle.answer.specs.Answer.{Answer, refused, outputAfter}
 use Rattle.terms.specs.Call.{Call, write, read, moveWords, moveMap, answerTo, resultOf}
 use Rattle.terms.specs.Terms.{SecondTerm, ThirdTerm, Terms}
 use Rattle.terms.proofs.First.{ends}
@@ -40,6 +40,14 @@ module _ (answer : Answer) (before after : List ℕ) where
   pub with-terms : (call : Call) → answer ≡ answerTo call (length before) → after ≡ outputAfter answer (resultOf call) before
       → (answer ≡ answerTo call (length before)) × ((after ≡ outputAfter answer (resultOf call) before) × Terms call answer before after)
   with-terms call answers stores = (answers, (stores, terms-hold call answers stores))
+
+-- the same of a refusal, which leaves the output
+pub refused-with-terms : (answer : Answer) (before : List ℕ) (call : Call) (number place : ℕ) → answer ≡ refused number place
+    → answerTo call (length before) ≡ refused number place
+    → (answer ≡ answerTo call (length before)) × ((before ≡ outputAfter answer (resultOf call) before) × Terms call answer before before)
+unfolding outputAfter
+refused-with-terms answer before call number place told is =
+    with-terms answer before before call (told ∙ sym is) (sym (ap (λ (a : Answer). outputAfter a (resultOf call) before) told))
 
 -- a call that stores nothing
 pub nothing-stored : (answer : Answer) → [] ≡ outputAfter answer [] []

@@ -1,7 +1,6 @@
 // Writing a record.
 use crate::group::store;
 use answer::Reason;
-use answer::Refusal;
 use answer::Written;
 use group6250::group::written;
 use rectangular::Code6250;
@@ -59,17 +58,11 @@ pub fn write(bytes: &[u8], words: &mut [u16]) -> Written
     ensures terms { λ r. ⌜ Terms (Call.write bpi6250 (now (bytes .entry))) (toldWritten r) (now (words .entry)) (now (words .exit)) ⌝ }
 {
     if bytes.len() > Code6250::MOST_DATA {
-        return Written::Refused(Refusal {
-            reason: Reason::Length,
-            place: 0,
-        });
+        return Written::refused(Reason::Length);
     }
     let full = bytes.len() / Code6250::BYTES;
     if words.len() < (full + 1) * Code6250::NUMBERS {
-        return Written::Refused(Refusal {
-            reason: Reason::Space,
-            place: 0,
-        });
+        return Written::refused(Reason::Space);
     }
     write_groups(bytes, words);
     let last = last_group(bytes);

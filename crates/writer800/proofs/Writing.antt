@@ -1,12 +1,11 @@
 -- What a writer has stored, and what it answers.
 -- Assumes nothing.
 use mathlib.Core.Path.{_≡_, sym, ap, ap₂, _∙_}
-use mathlib.Core.Bool.{Bool, cond, _&&_}
 use mathlib.Core.List.{List, [], _∷_, _++_, map}
 use Prim.Native.Nat.{ℕ, suc, _+_, _<_, _≤_}
 use native.Mathlib.Omega.{arith}
 use borrow.Author.Tests.{le-leb, lt-leb}
-use lib.Dec.{leb, lit<}
+use lib.Dec.{lit<}
 use lib.ListN.{length, getD, drop, set, length-append, length-drop, length-map}
 use lib.Seq.{drop-cons, set-at, append-snoc}
 use Rattle.register.specs.Held.{held}
@@ -14,8 +13,9 @@ use Rattle.register.specs.Shift.{shifts}
 use Rattle.register.specs.Xor.{_⊕_}
 use Rattle.register.proofs.Held.{held-ext, held-lt, held-shifts}
 use Rattle.indexed.proofs.Map.{getD-map}
-use Rattle.answer.specs.Answer.{Answer, delivered, refused}
-use Rattle.cyclic.specs.Constants.{feedback, timesX}
+use Rattle.answer.specs.Answer.{refusedFor}
+use Rattle.answer.specs.declared.Reason.the-variants.{Length, Space}
+use Rattle.cyclic.specs.Constants.{feedback, leastData, mostData, checks, timesX}
 use Rattle.record800.specs.Record.{characterOf, checkSum, checkCharacter, longitudinal, withCheck, writtenRecord}
 use Rattle.record800.specs.Written.{writeAnswer}
 use Rattle.writer800.specs.Stored.{stored}
@@ -24,30 +24,17 @@ use Rattle.record800.proofs.Recorded.{character-lt, length-record, longitudinal
 -- ---- the answer
 
 module _ (size space : ℕ) where
-  abbrev after : Bool → Bool → Bool → Answer
-  after p q r = cond (p && q) (cond r (delivered ((size + 2) ∷ [])) (refused 2 0)) (refused 1 0)
-
-  pub empty-refused : size < 1 → writeAnswer size space ≡ refused 1 0
+  pub empty-refused : size < leastData → writeAnswer size space ≡ refusedFor Length 0
   unfolding writeAnswer
-  empty-refused h = ap (λ (p : Bool). after p (leb size 2048) (leb (size + 2) space)) (lt-leb 1 size h)
+  empty-refused h = simp (lt-leb leastData size h)
 
-  module _ (some : 1 ≤ size) where
-    pub long-refused : 2048 < size → writeAnswer size space ≡ refused 1 0
-    unfolding writeAnswer
-    long-refused h = ap₂ (λ (p q : Bool). after p q (leb (size + 2) space)) (le-leb 1 size some) (lt-leb size 2048 h)
+  pub long-refused : leastData ≤ size → mostData < size → writeAnswer size space ≡ refusedFor Length 0
+  unfolding writeAnswer
+  long-refused some h = simp (le-leb leastData size some, lt-leb size mostData h)
 
-    module _ (within : size ≤ 2048) where
-      fits : (r : Bool) → leb (size + 2) space ≡ r → writeAnswer size space ≡ cond r (delivered ((size + 2) ∷ [])) (refused 2 0)
-      unfolding writeAnswer
-      fits r e =
-          ap₂ (λ (p q : Bool). after p q (leb (size + 2) space)) (le-leb 1 size some) (le-leb size 2048 within)
-          ∙ ap (λ (t : Bool). cond t (delivered ((size + 2) ∷ [])) (refused 2 0)) e
-
-      pub space-refused : space < size + 2 → writeAnswer size space ≡ refused 2 0
-      space-refused h = fits _ (lt-leb (size + 2) space h)
-
-      pub written-answer : size + 2 ≤ space → writeAnswer size space ≡ delivered ((size + 2) ∷ [])
-      written-answer h = fits _ (le-leb (size + 2) space h)
+  pub space-refused : leastData ≤ size → size ≤ mostData → space < size + checks → writeAnswer size space ≡ refusedFor Space 0
+  unfolding writeAnswer
+  space-refused some within h = simp (le-leb leastData size some, le-leb size mostData within, lt-leb (size + checks) space h)
 
 -- ---- the output
 

@@ -1,7 +1,6 @@
 // Writing a record.
 use crate::character::data_characters;
 use answer::Reason;
-use answer::Refusal;
 use answer::Written;
 use cyclic::Code800;
 use cyclic::shift;
@@ -53,22 +52,13 @@ pub fn write(bytes: &[u8], characters: &mut [u16]) -> Written
 {
     let n = bytes.len();
     if n < Code800::LEAST_DATA {
-        return Written::Refused(Refusal {
-            reason: Reason::Length,
-            place: 0,
-        });
+        return Written::refused(Reason::Length);
     }
     if n > Code800::MOST_DATA {
-        return Written::Refused(Refusal {
-            reason: Reason::Length,
-            place: 0,
-        });
+        return Written::refused(Reason::Length);
     }
     if characters.len() < n + Code800::CHECKS {
-        return Written::Refused(Refusal {
-            reason: Reason::Space,
-            place: 0,
-        });
+        return Written::refused(Reason::Space);
     }
     let table = data_characters();
     let sums = write_data(bytes, &table, characters);

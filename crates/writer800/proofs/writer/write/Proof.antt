@@ -1,6 +1,6 @@
 -- `writer800::writer::write` meets its contract.
 -- Assumes nothing.
-use mathlib.Core.Path.{refl, sym, ap, _∙_}
+use mathlib.Core.Path.{sym, ap, _∙_}
 use mathlib.Core.List.{List}
 use Prim.Native.Nat.{ℕ, _+_, _<_}
 use native.Mathlib.Omega.{arith}
@@ -10,32 +10,46 @@ use lib.ListN.{length, getD, set, length-set}
 use Rattle.register.specs.Xor.{_⊕_}
 use Rattle.answer.specs.Answer.{outputAfter}
 use Rattle.writer800.specs.Stored.{stored}
-use Rattle.terms.proofs.Terms.{with-terms}
+use Rattle.record800.proofs.Answer.{write-delivers}
+use Rattle.terms.proofs.Terms.{with-terms, refused-with-terms}
 use Rattle.terms.specs.Call.{write, answerTo, resultOf}
 use Rattle.terms.specs.Reading.{bpi800, writtenRecord}
-use Rattle.writer800.proofs.Writing.{empty-refused, long-refused, space-refused, written-answer, check-fits, check-is, length-stored, all-stored}
+use Rattle.writer800.proofs.Writing.{empty-refused, long-refused, space-refused, check-fits, check-is, length-stored, all-stored}
 use Rattle.writer800.proofs.writer.write.Statement.{statement}
 use Rattle.writer800.proofs.writer.write.Tie as tie
 
+refused-requires : tie.Need-refused-requires
+refused-requires c κs = search needs
+
 returns : tie.Need-returns
-unfolding outputAfter answerTo resultOf writtenRecord
-returns c = with-terms _ _ _ (write bpi800 (now (c .before .before .before .args .bytes))) (sym (empty-refused _ _ (c .if1 .taken))) refl
+unfolding answerTo resultOf writtenRecord
+returns c =
+    let test = c .before in
+    refused-with-terms _ _ (write bpi800 (now (test .before .before .before .args .bytes))) _ _ (c .refused .ensures)
+    (empty-refused _ _ (test .if1 .taken))
+
+refused-requires-2 : tie.Need-refused-requires-2
+refused-requires-2 c κs = search needs
 
 returns-2 : tie.Need-returns-2
-unfolding outputAfter answerTo resultOf writtenRecord
+unfolding answerTo resultOf writtenRecord
 returns-2 c =
-    let bytes = now (c .before .before .before .before .args .bytes) in
-    with-terms _ _ _ (write bpi800 bytes) (sym (long-refused (length bytes) _ (c .before .if1 .left) (c .if2 .taken))) refl
+    let test = c .before in
+    refused-with-terms _ _ (write bpi800 (now (test .before .before .before .before .args .bytes))) _ _ (c .refused2 .ensures)
+    (long-refused _ _ (test .before .if1 .left) (test .if2 .taken))
 
 add-if3 : tie.Need-add-if3
 add-if3 c = search needs
 
+refused-requires-3 : tie.Need-refused-requires-3
+refused-requires-3 c κs = search needs
+
 returns-3 : tie.Need-returns-3
-unfolding outputAfter answerTo resultOf writtenRecord
+unfolding answerTo resultOf writtenRecord
 returns-3 c =
-    let bytes = now (c .before .before .before .before .before .args .bytes) in
-    with-terms _ _ _ (write bpi800 bytes)
-    (sym (space-refused (length bytes) _ (c .before .before .if1 .left) (c .before .if2 .left) (c .if3 .taken))) refl
+    let test = c .before in
+    refused-with-terms _ _ (write bpi800 (now (test .before .before .before .before .before .args .bytes))) _ _ (c .refused3 .ensures)
+    (space-refused _ _ (test .before .before .if1 .left) (test .before .if2 .left) (test .if3 .taken))
 
 data-characters-requires : tie.Need-data-characters-requires
 data-characters-requires c κs = search needs
@@ -79,8 +93,8 @@ slice-write-characters-2 c =
       tests .if3 .left,
     ))
 
-add-t12 : tie.Need-add-t12
-add-t12 c = search needs
+add-t10 : tie.Need-add-t10
+add-t10 c = search needs
 
 same-length : tie.Need-same-length
 same-length c = search needs
@@ -96,7 +110,7 @@ returns-4 c =
     let sums = data-written .write-data in
     let check = c .before .shift .result ⊕ 471 in
     with-terms _ _ _ (write bpi800 bytes)
-    (sym (written-answer (length bytes) _ (tests .before .before .if1 .left) (tests .before .if2 .left) (tests .if3 .left)))
+    (sym (write-delivers _ _ (tests .before .before .if1 .left) (tests .before .if2 .left) (tests .if3 .left)))
     (ap (λ (l : List ℕ). set (set l (length bytes) check) (length bytes + 1) (sums .result .longitudinal ⊕ check)) (sums .ensures .0)
     ∙ all-stored bytes below (now (args .characters)) check _ (tests .if3 .left)
     (ap (λ (x : ℕ). x ⊕ 471) (c .before .shift .ensures) ∙ check-is bytes below (sums .result .check) (sums .ensures .1 .0))
@@ -106,9 +120,12 @@ pub write-spec : {M : Type 1} → statement M
 write-spec =
     tie.close
     (tie.spec
+    refused-requires
     returns
+    refused-requires-2
     returns-2
     add-if3
+    refused-requires-3
     returns-3
     data-characters-requires
     slice-aggregate-write-data
@@ -119,6 +136,6 @@ write-spec =
     add-characters
     mul-characters-2
     slice-write-characters-2
-    add-t12
+    add-t10
     same-length
     returns-4)
