@@ -7,9 +7,9 @@ use answer::Written;
 use marks::marks::View;
 use marks::marks::group_marks;
 use marks::marks::refused_column;
-use reader6250::Figures;
-use reader6250::Read;
 use rectangular::Code6250;
+use scan6250::Figures;
+use scan6250::Read;
 use streams::PAGE;
 use streams::Text;
 use streams::put;
@@ -18,9 +18,7 @@ ghost use Prim.Native.Nat.{_+_, _*_, _≤_, min};
 ghost use lib.ListN.{length, take};
 ghost use Rattle.answer.specs.Answer.{outputAfter};
 ghost use Rattle.rectangular.specs.Constants.{numbersPerGroup, mostGroups};
-ghost use Rattle.record6250.specs.Read.{readAnswer, readData};
 ghost use Rattle.record6250.specs.Record.{writtenRecord};
-ghost use Rattle.reader6250.specs.Told.{toldRead};
 ghost use Rattle.record6250.specs.Written.{writeAnswer};
 
 // The words of the longest record.
@@ -71,17 +69,6 @@ pub(crate) fn read(page: &mut [u8; PAGE], text: &[u8], backward: bool) -> Text {
     let groups = parsed.stored;
     let end = Code6250::NUMBERS * groups;
     Text::Output(show(page, &words[..end], &maps[..groups], backward))
-}
-
-// Reads the record, either way.
-fn answered(words: &[u16], maps: &[u16], backward: bool, output: &mut [u8]) -> Read
-    ensures answer { λ r. ⌜ toldRead r ≡ readAnswer backward (now (words .entry)) (now (maps .entry)) (length (now (output .entry))) ⌝ }
-    ensures output { λ r. ⌜ now (output .exit) ≡ outputAfter (toldRead r) (readData backward (now (words .entry)) (now (maps .entry))) (now (output .entry)) ⌝ }
-{
-    if backward {
-        return reader6250::read_backward(words, maps, output);
-    }
-    reader6250::read_forward(words, maps, output)
 }
 
 // The words of the record that was delivered, from its data.
@@ -191,7 +178,7 @@ fn show(page: &mut [u8; PAGE], words: &[u16], maps: &[u16], backward: bool) -> u
     requires { ⌜ (length (now words) ≡ numbersPerGroup * length (now maps)) × (length (now maps) ≤ mostGroups + 1) ⌝ }
 {
     let mut output = [0u8; Code6250::MOST_BODY];
-    match answered(words, maps, backward, &mut output) {
+    match reader6250::read_record(words, maps, backward, &mut output) {
         Read::Delivered(figures) => {
             show_delivered(page, words, maps, backward, &output, figures)
         }

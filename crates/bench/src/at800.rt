@@ -17,9 +17,7 @@ ghost use mathlib.Core.Path.{_≡_};
 ghost use Prim.Native.Nat.{_+_, _/_, _≤_};
 ghost use lib.ListN.{length, take};
 ghost use Rattle.answer.specs.Answer.{outputAfter};
-ghost use Rattle.record800.specs.Read.{readAnswer, readData};
 ghost use Rattle.record800.specs.Record.{writtenRecord};
-ghost use Rattle.reader800.specs.Told.{toldRead};
 ghost use Rattle.record800.specs.Written.{writeAnswer};
 
 // Characters are printed so many to a line.
@@ -56,17 +54,6 @@ pub(crate) fn read(page: &mut [u8; PAGE], text: &[u8], backward: bool) -> Text {
     }
     let stored = parsed.stored;
     Text::Output(show(page, &characters[..stored], backward))
-}
-
-// Reads the record, either way.
-fn answered(characters: &[u16], backward: bool, output: &mut [u8]) -> Read
-    ensures answer { λ r. ⌜ toldRead r ≡ readAnswer backward (now (characters .entry)) (length (now (output .entry))) ⌝ }
-    ensures output { λ r. ⌜ now (output .exit) ≡ outputAfter (toldRead r) (readData backward (now (characters .entry))) (now (output .entry)) ⌝ }
-{
-    if backward {
-        return reader800::read_backward(characters, output);
-    }
-    reader800::read_forward(characters, output)
 }
 
 // The characters of the record that was delivered, from its data.
@@ -173,7 +160,7 @@ fn show(page: &mut [u8; PAGE], characters: &[u16], backward: bool) -> usize
     requires { ⌜ length (now characters) ≤ 2051 ⌝ }
 {
     let mut output = [0u8; 2049];
-    match answered(characters, backward, &mut output) {
+    match reader800::read_record(characters, backward, &mut output) {
         Read::Delivered(figures) => show_delivered(page, characters, backward, &output, figures),
         Read::Refused(refusal) => show_refused(page, characters, backward, refusal),
     }

@@ -1,40 +1,36 @@
--- `reader6250::reader::read_within` meets its contract.
+-- `reader6250::reader::read_within` meets its contract: what is delivered stands in front of the body.
 -- Assumes nothing.
-use mathlib.Core.Path.{refl, sym, ap, ap₂, _∙_}
-use mathlib.Core.List.{List}
-use Prim.Native.Nat.{ℕ, _*_}
+use mathlib.Core.Path.{_≡_, refl, sym, ap, ap₂, _∙_}
+use mathlib.Core.List.{List, _++_}
+use Prim.Native.Nat.{ℕ, _≤_}
 use native.Mathlib.Omega.{arith}
-use denote.Ref.{now}
-use lib.ListN.{length, take}
-use Rattle.answer.specs.Answer.{delivered, outputAfter}
-use Rattle.record6250.specs.Read.{unpadded, readData, changes}
-use Rattle.reader6250.specs.Told.{toldRead, toldScan, paddingAnswer}
-use Rattle.reader6250.proofs.Delivery.{scan-fits, scan-unfit, fit-answer, body-long, body-in-front}
-use Rattle.record6250.proofs.Reading.{groups-within}
 use borrow.Author.Needs.{needs}
+use denote.Ref.{now}
+use lib.ListN.{length, getD, take, drop}
+use Rattle.answer.specs.Answer.{outputAfter}
+use Rattle.record6250.specs.Read.{readData}
+use Rattle.scan6250.specs.Told.{toldRead}
+use Rattle.scan6250.proofs.Whole.{figures-are, data-short, data-within, data-in-front}
 use Rattle.reader6250.proofs.reader.read_within.Statement.{statement}
 use Rattle.reader6250.proofs.reader.read_within.Tie as tie
 
-correct-all-requires : tie.Need-correct-all-requires
-correct-all-requires c κs = search needs
+judge-record-requires : tie.Need-judge-record-requires
+judge-record-requires c κs = search needs
 
-enum-known-changes : tie.Need-enum-known-changes
-enum-known-changes c = search needs
+enum-known-figures : tie.Need-enum-known-figures
+enum-known-figures c = search needs
 
-mul-delivered : tie.Need-mul-delivered
-mul-delivered c = search needs
-
-delivered-requires : tie.Need-delivered-requires
-delivered-requires c κs =
-    let start = c .before .before .before .before .before .before .before .before .before .before .before .before .before .before in
+deliver-requires : tie.Need-deliver-requires
+deliver-requires c κs =
+    let at = c .before .before .before .before .before .before .before .before .before in
+    let start = at .before .before .before .before .before .before .before .before .before in
     let words = now (start .args .words) in
     let maps = now (start .args .maps) in
     let b = start .args .backward in
-    let scan = c .before .before .before .before .before .before .before .correct-all in
-    let fits = scan-fits b words maps _ (sym (ap toldScan (c .before .before .before .changes .given .1)) ∙ scan .ensures .0) in (
-      omega (arith, groups-within b words maps (start .pre .0) .0),
-      rw (scan .ensures .1 (fits .0)) (body-long b words maps _),
-      omega (arith, start .pre .2),
+    let told = sym (at .judge-record .ensures .0) ∙ ap toldRead (c .before .before .before .figures .given .1) in
+    let count = ap (λ (l : List ℕ). getD l 0 0) (figures-are b words maps _ told) in (
+      rw (count, at .judge-record .ensures .1 .0) (data-within b words maps _ told (now (start .args .body))),
+      rw count (omega (arith, data-short b words maps _ told, start .pre .3)),
     )
 
 enum-known-refusal : tie.Need-enum-known-refusal
@@ -46,43 +42,47 @@ same-length c = search needs
 same-length-2 : tie.Need-same-length-2
 same-length-2 c = search needs
 
-returns : tie.Need-returns
-unfolding readData
-returns c =
-    let start = c .before .before .before .before .before .before .before .before .before .before .before .before .before .before .before .before .before in
-    let words = now (start .args .words) in
-    let maps = now (start .args .maps) in
-    let b = start .args .backward in
-    let scan = c .before .before .before .before .before .before .before .before .before .before .correct-all in
-    let told = c .before .before .delivered in
-    let fits = scan-fits b words maps _ (sym (ap toldScan (c .before .before .before .before .before .before .changes .given .1)) ∙ scan .ensures .0) in
-    let gathered = ap (take (length maps * 7)) (scan .ensures .1 (fits .0)) ∙ body-in-front b words maps _ in (
-      told .ensures .0 ∙ ap₂ paddingAnswer gathered (fits .1) ∙ fit-answer b words maps (fits .0),
-      told .ensures .1 ∙ ap (λ (l : List ℕ). outputAfter (toldRead (told .result)) (unpadded l) (now (start .args .output))) gathered,
-    )
-
 same-length-3 : tie.Need-same-length-3
 same-length-3 c = search needs
 
-returns-2 : tie.Need-returns-2
+returns : tie.Need-returns
 unfolding outputAfter
-returns-2 c =
-    let start = c .before .before .before .before .before .before .before .before .before .before .before .before in
+returns c =
+    let at = c .before .before .before .before .before .before .before .before .before .before .before .before in
+    let start = at .before .before .before .before .before .before .before .before .before in
     let words = now (start .args .words) in
     let maps = now (start .args .maps) in
-    (scan-unfit (start .args .backward) words maps _ _ (sym (ap toldScan (c .before .refusal .given .1)) ∙ c .before .before .before .before .before .correct-all .ensures .0), refl)
+    let b = start .args .backward in
+    let told = sym (at .judge-record .ensures .0) ∙ ap toldRead (c .before .before .before .before .before .before .figures .given .1) in
+    let count = ap (λ (l : List ℕ). getD l 0 0) (figures-are b words maps _ told) in (
+      sym told,
+      c .before .before .deliver .ensures
+          ∙ ap₂ (λ (n : ℕ) (l : List ℕ). take n l ++ drop n (now (start .args .output))) count (at .judge-record .ensures .1 .0)
+          ∙ ap (λ (l : List ℕ). l ++ drop (length (readData b words maps)) (now (start .args .output))) (data-in-front b words maps _ told (now (start .args .body))),
+    )
+
+same-length-4 : tie.Need-same-length-4
+same-length-4 c = search needs
+
+same-length-5 : tie.Need-same-length-5
+same-length-5 c = search needs
+
+returns-2 : tie.Need-returns-2
+unfolding outputAfter
+returns-2 c = (sym (ap toldRead (c .before .refusal .given .1)) ∙ c .before .before .before .before .before .before .before .judge-record .ensures .0, refl)
 
 pub read-within-spec : {M : Type 1} → statement M
 read-within-spec =
     tie.close
     (tie.spec
-    correct-all-requires
-    enum-known-changes
-    mul-delivered
-    delivered-requires
+    judge-record-requires
+    enum-known-figures
+    deliver-requires
     enum-known-refusal
     same-length
     same-length-2
-    returns
     same-length-3
+    returns
+    same-length-4
+    same-length-5
     returns-2)

@@ -1,10 +1,10 @@
-// The corrected bytes of a record: stored group by group, held to the padding rule, and delivered.
+// The corrected bytes of a record: stored group by group, and held to the padding rule.
 use group6250::transpose::transposed;
 use rectangular::Code6250;
 ghost use mathlib.Core.Path.{_≡_};
 ghost use mathlib.Core.List.{_++_};
 ghost use Prim.Native.Nat.{_≤_};
-ghost use lib.ListN.{length, take, drop};
+ghost use lib.ListN.{length, drop};
 ghost use Rattle.rectangular.specs.Constants.{bytesPerGroup};
 ghost use Rattle.rectangular.specs.Group.{informationOf};
 ghost use Rattle.group6250.specs.Packed.{byteAt};
@@ -42,16 +42,4 @@ pub(crate) fn padding_suits(bytes: &[u8]) -> bool
         k += 1;
     }
     true
-}
-
-// Copies the first bytes to the front of the output.
-pub(crate) fn deliver(bytes: &[u8], count: usize, output: &mut [u8])
-    requires { ⌜ (count ≤ length (now bytes)) × (count ≤ length (now output)) ⌝ }
-    ensures { λ _. ⌜ now (output .exit) ≡ take count (now (bytes .entry)) ++ drop count (now (output .entry)) ⌝ }
-{
-    let mut k = 0;
-    while k < count {
-        output[k] = bytes[k];
-        k += 1;
-    }
 }

@@ -1,11 +1,11 @@
--- `reader6250::reader::count_changed` meets its contract: no map has more than sixteen ones.
+-- `scan6250::gather::count_changed` meets its contract: no map has more than sixteen ones.
 -- Assumes nothing.
 use mathlib.Core.Path.{sym, ap}
 use native.Mathlib.Omega.{arith}
 use lib.Count.{ones, onesIn, ones-le}
 use borrow.Author.Needs.{needs}
-use Rattle.reader6250.proofs.reader.count_changed.Statement.{statement}
-use Rattle.reader6250.proofs.reader.count_changed.Tie as tie
+use Rattle.scan6250.proofs.gather.count_changed.Statement.{statement}
+use Rattle.scan6250.proofs.gather.count_changed.Tie as tie
 
 returns : tie.Need-returns
 unfolding ones onesIn

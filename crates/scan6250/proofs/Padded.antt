@@ -1,21 +1,22 @@
--- The answer of a reading by its groups and its padding, and its data as they lie in front of a body.
+-- The answer of a reading by its groups and its padding, and what is gathered of it.
 -- Assumes nothing.
 use mathlib.Core.Path.{_≡_, refl, sym, ap, ap₂, _∙_}
 use mathlib.Core.Bool.{Bool, true, false, cond, not}
 use mathlib.Core.List.{List, [], _∷_, _++_}
-use Prim.Native.Nat.{ℕ, _-_, _*_, _≤_}
+use Prim.Native.Nat.{ℕ, _-_, _*_, _<_, _≤_}
 use native.Mathlib.Nat.{mul-comm, le-refl}
 use native.Mathlib.Omega.{arith}
-use borrow.Author.Tests.{le-ltb, ltb-false}
+use borrow.Author.Tests.{lt-ltb, le-ltb, ltb-false}
 use lib.Dec.{ltb}
-use lib.ListN.{length, getD, take, length-append}
+use lib.ListN.{length, getD, take, drop, length-append}
 use lib.Seq.{length-take-le, getD-take, take-take, take-at}
+use Rattle.indexed.specs.List.{tabulate, tabulateFrom, blocks}
 use Rattle.indexed.proofs.Below.{first-below-le}
 use Rattle.indexed.proofs.Blocks.{length-blocks}
 use Rattle.answer.specs.Answer.{Answer, delivered, refused, refusedFor}
 use Rattle.record6250.specs.Group.{isCorrected, reasonOf}
-use Rattle.record6250.specs.Read.{lastByte, paddingSuits, unpadded, judgement, firstUnfit, readBody, readData, changes, judgedAnswer}
-use Rattle.reader6250.specs.Told.{scanAnswer, paddingAnswer}
+use Rattle.record6250.specs.Read.{lastByte, paddingSuits, unpadded, judgement, firstStray, firstUnfit, readBody, readData, changes, judgedAnswer}
+use Rattle.scan6250.specs.Told.{groupsAnswer, paddingAnswer, reached, bytesGathered, mapsGathered}
 use Rattle.record6250.proofs.FittingGroup.{length-rightBytes}
 use Rattle.record6250.proofs.Padding.{last-le}
 use Rattle.answer.proofs.Apart.{not-both}
@@ -64,18 +65,18 @@ module _ (backward : Bool) (words maps : List ℕ) where
   abbrev refusal : Answer
   refusal = refusedFor (reasonOf (judgement backward words maps unfit)) unfit
 
-  pub scan-fits : (n : ℕ) → delivered (n ∷ []) ≡ scanAnswer backward words maps → (unfit ≡ length maps) × (n ≡ changes backward words maps)
-  unfolding scanAnswer firstUnfit
-  scan-fits n = by (ltb unfit (length maps)) refl
+  pub groups-fit : (n : ℕ) → delivered (n ∷ []) ≡ groupsAnswer backward words maps → (unfit ≡ length maps) × (n ≡ changes backward words maps)
+  unfolding groupsAnswer firstUnfit
+  groups-fit n = by (ltb unfit (length maps)) refl
     where
       by : (b : Bool) → ltb unfit (length maps) ≡ b → delivered (n ∷ []) ≡ cond b refusal (delivered (changes backward words maps ∷ []))
           → (unfit ≡ length maps) × (n ≡ changes backward words maps)
       by true e q = absurd (not-both _ _ _ q)
       by false e q = (omega (arith, ltb-false unfit (length maps) e, first-below-le (length maps) (λ g. not (isCorrected (judgement backward words maps g)))), cc)
 
-  pub scan-unfit : (n p : ℕ) → refused n p ≡ scanAnswer backward words maps → refused n p ≡ judgedAnswer backward words maps
-  unfolding scanAnswer judgedAnswer
-  scan-unfit n p = by (ltb unfit (length maps)) refl
+  pub groups-unfit : (n p : ℕ) → refused n p ≡ groupsAnswer backward words maps → refused n p ≡ judgedAnswer backward words maps
+  unfolding groupsAnswer judgedAnswer
+  groups-unfit n p = by (ltb unfit (length maps)) refl
     where
       rest : Answer
       rest = cond (paddingSuits (readBody backward words maps)) (delivered (length (readData backward words maps) ∷ changes backward words maps ∷ [])) (refused 6 0)
@@ -91,13 +92,37 @@ module _ (backward : Bool) (words maps : List ℕ) where
       sym (ap (λ (b : Bool). cond b refusal (paddingAnswer (readBody backward words maps) (changes backward words maps)))
       (ap (λ (u : ℕ). ltb u (length maps)) e ∙ le-ltb (length maps) (length maps) (le-refl (length maps))))
 
-  body-size : length (readBody backward words maps) ≡ length maps * 7
+  pub body-size : length (readBody backward words maps) ≡ length maps * 7
   unfolding readBody
   body-size =
       length-blocks 7 (length maps) _ (λ g h. length-rightBytes (judgement backward words maps g)) ∙ mul-comm 7 (length maps)
 
-  pub body-long : (rest : List ℕ) → length maps * 7 ≤ length (readBody backward words maps ++ rest)
-  body-long rest = omega (arith, body-size, length-append (readBody backward words maps) rest)
+  -- ---- what is gathered
 
-  pub body-in-front : (rest : List ℕ) → take (length maps * 7) (readBody backward words maps ++ rest) ≡ readBody backward words maps
-  body-in-front rest = take-at (readBody backward words maps) rest (length maps * 7) body-size
+  -- the two slices, once so many groups are gathered
+  abbrev Both : ℕ → List ℕ → List ℕ → List ℕ → List ℕ → Type 0
+  Both n body changed body₀ changed₀ = (body ≡ bytesGathered backward words maps n body₀) × (changed ≡ mapsGathered backward words maps n changed₀)
+
+  pub none-gathered : firstStray backward words maps < length maps → (body changed : List ℕ) → Both (reached backward words maps) body changed body changed
+  unfolding reached bytesGathered mapsGathered blocks tabulate tabulateFrom
+  none-gathered h body changed =
+      rw (ap (λ (b : Bool). cond b 0 unfit) (lt-ltb (firstStray backward words maps) (length maps) h)) (refl, refl)
+
+  pub reached-unfit : length maps ≤ firstStray backward words maps → reached backward words maps ≡ unfit
+  unfolding reached
+  reached-unfit h = ap (λ (b : Bool). cond b 0 unfit) (le-ltb (firstStray backward words maps) (length maps) h)
+
+  pub as-far : length maps ≤ firstStray backward words maps → (body changed body₀ changed₀ : List ℕ) → Both unfit body changed body₀ changed₀
+      → Both (reached backward words maps) body changed body₀ changed₀
+  as-far h body changed body₀ changed₀ both = rw (reached-unfit h) both
+
+  module _ (before : List ℕ) (fits : unfit ≡ length maps) where
+    pub gathered : bytesGathered backward words maps unfit before ≡ readBody backward words maps ++ drop (7 * length maps) before
+    unfolding bytesGathered readBody
+    gathered = ap (λ (n : ℕ). bytesGathered backward words maps n before) fits
+
+    pub body-long : length maps * 7 ≤ length (bytesGathered backward words maps unfit before)
+    body-long = rw gathered (omega (arith, body-size, length-append (readBody backward words maps) (drop (7 * length maps) before)))
+
+    pub body-in-front : take (length maps * 7) (bytesGathered backward words maps unfit before) ≡ readBody backward words maps
+    body-in-front = ap (take (length maps * 7)) gathered ∙ take-at (readBody backward words maps) _ (length maps * 7) body-size

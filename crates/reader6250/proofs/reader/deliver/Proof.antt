@@ -1,4 +1,4 @@
--- `reader6250::corrected::deliver` meets its contract. The loop's invariant: the first `k` bytes are copied.
+-- `reader6250::reader::deliver` meets its contract. The loop's invariant: the first `k` bytes are copied.
 -- Assumes nothing.
 use mathlib.Core.Path.{_≡_, refl, ap, _∙_}
 use Prim.Native.Nat.{ℕ, _-_, _≤_}
@@ -8,8 +8,8 @@ use mathlib.Core.List.{List}
 use lib.ListN.{length, getD, set, length-set}
 use Rattle.indexed.proofs.Front.{front, front-more}
 use borrow.Author.Needs.{needs}
-use Rattle.reader6250.proofs.corrected.deliver.Statement.{statement}
-use Rattle.reader6250.proofs.corrected.deliver.Tie as tie
+use Rattle.reader6250.proofs.reader.deliver.Statement.{statement}
+use Rattle.reader6250.proofs.reader.deliver.Tie as tie
 
 abbrev Inv-loop : tie.InvT-loop
 Inv-loop bytes count output₀ k₀ output k = (k ≤ count) × (length output ≡ length output₀) × (output ≡ front k bytes output₀)

@@ -1,4 +1,4 @@
--- `reader6250::corrected::unpack` meets its contract. The loop's invariant: the first `k` bytes are stored.
+-- `scan6250::corrected::unpack` meets its contract. The loop's invariant: the first `k` bytes are stored.
 -- Assumes nothing.
 use mathlib.Core.Path.{_≡_, refl, sym, ap, ap₂, _∙_}
 use Prim.Native.Nat.{ℕ, _-_, _*_, _/_, _%_, _^_, _<_, _≤_}
@@ -13,8 +13,8 @@ use Rattle.rectangular.specs.Group.{column, informationOf}
 use Rattle.group6250.specs.Packed.{byteAt, bytesOf}
 use Rattle.group6250.proofs.Bytes.{byte-of}
 use borrow.Author.Needs.{needs}
-use Rattle.reader6250.proofs.corrected.unpack.Statement.{statement}
-use Rattle.reader6250.proofs.corrected.unpack.Tie as tie
+use Rattle.scan6250.proofs.corrected.unpack.Statement.{statement}
+use Rattle.scan6250.proofs.corrected.unpack.Tie as tie
 
 -- byte 7 - k of the characters
 byte-at : (r tracks : ℕ) → bytesOf r ≡ tabulate 8 (column 8 (λ j. byteAt j tracks)) → (k : ℕ) → k < 7

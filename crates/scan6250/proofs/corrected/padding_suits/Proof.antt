@@ -1,4 +1,4 @@
--- `reader6250::corrected::padding_suits` meets its contract. The loop's invariant: the first `k` bytes before the last are zero.
+-- `scan6250::corrected::padding_suits` meets its contract. The loop's invariant: the first `k` bytes before the last are zero.
 -- Assumes nothing.
 use mathlib.Core.Path.{_≡_, sym}
 use Prim.Native.Nat.{ℕ, _-_, _<_, _≤_}
@@ -13,8 +13,8 @@ use Rattle.record6250.specs.Read.{lastByte}
 use Rattle.indexed.proofs.Below.{one-more-below}
 use Rattle.record6250.proofs.Padding.{last-above, not-zero, all-zero}
 use borrow.Author.Needs.{needs}
-use Rattle.reader6250.proofs.corrected.padding_suits.Statement.{statement}
-use Rattle.reader6250.proofs.corrected.padding_suits.Tie as tie
+use Rattle.scan6250.proofs.corrected.padding_suits.Statement.{statement}
+use Rattle.scan6250.proofs.corrected.padding_suits.Tie as tie
 
 abbrev Inv-loop : tie.InvT-loop
 Inv-loop bytes size last k₀ k = (k ≤ last) × ((j : ℕ) → j < k → eqb (getD bytes (size - 2 - j) 0) 0 ≡ true)

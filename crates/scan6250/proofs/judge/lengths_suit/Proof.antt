@@ -1,4 +1,4 @@
--- `reader6250::reader::lengths_suit` meets its contract.
+-- `scan6250::judge::lengths_suit` meets its contract.
 -- Assumes nothing.
 use mathlib.Core.Path.{sym, ap, ap₂, _∙_}
 use mathlib.Core.Bool.{Bool, _&&_}
@@ -9,8 +9,8 @@ use borrow.Author.Tests.{lt-ltb, le-leb, lt-leb}
 use lib.Dec.{ltb, leb, eqb}
 use Rattle.record6250.specs.Read.{lengthsSuit}
 use borrow.Author.Needs.{needs}
-use Rattle.reader6250.proofs.reader.lengths_suit.Statement.{statement}
-use Rattle.reader6250.proofs.reader.lengths_suit.Tie as tie
+use Rattle.scan6250.proofs.judge.lengths_suit.Statement.{statement}
+use Rattle.scan6250.proofs.judge.lengths_suit.Tie as tie
 
 returns : tie.Need-returns
 unfolding lengthsSuit

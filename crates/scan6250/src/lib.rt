@@ -1,0 +1,23 @@
+// Judging a whole record at 6250 bits per inch without writing (document 01, "The 6250 record" and "Where a call is
+// turned down"). Its corrected bytes and the tracks that are changed in each group are gathered into slices that the caller lends,
+// and what it comes to is told: every call that reads a record does it by this.
+mod corrected;
+mod gather;
+mod judge;
+
+use answer::Refusal;
+pub use judge::judge_record;
+pub use judge::lengths_suit;
+pub use judge::refused;
+
+// The figures of a delivery: the data's length, and how many words of the reading differ from the record.
+pub struct Figures {
+    pub length: usize,
+    pub changes: usize,
+}
+
+// What reading a record answers.
+pub enum Read {
+    Delivered(Figures),
+    Refused(Refusal),
+}
