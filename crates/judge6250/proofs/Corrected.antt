@@ -12,14 +12,17 @@ use lib.Bits.{xor-self, xor-zero-r, xor-shr, xor-mod}
 use lib.Dec.{eqb}
 use lib.ListN.{getD}
 use lib.Pow.{pow-lt}
-use Rattle.indexed.specs.List.{tabulate, tabulateFrom}
+use Rattle.indexed.specs.List.{tabulate, tabulateFrom, firstWhere, below, keep}
 use Rattle.indexed.proofs.Tabulate.{getD-tabulate, tabulate-same, tabulate-last}
 use Rattle.indexed.proofs.Test.{equal, equal₂, equal₃}
-use Rattle.register.specs.Bit.{ofBits}
+use Rattle.register.specs.Bit.{bit, ofBits}
+use Rattle.register.specs.Shift.{shift, shifts}
 use Rattle.register.specs.Xor.{_⊕_}
 use Rattle.register.proofs.Xor.{xor-cancel}
 use Rattle.judge6250.specs.Told.{markAt}
-use Rattle.rectangular.specs.Correction.{errorAt, changedMap}
+use Rattle.rectangular.specs.Constants.{feedback, exponent}
+use Rattle.rectangular.specs.Correction.{pointedTracks, errorAt, corrected, without, judged, changedMap}
+use Rattle.rectangular.specs.Syndrome.{paritySyndrome, checkSyndrome, weighed, firstAccounting, oneError, errorsOf}
 use Rattle.group6250.specs.Packed.{byteAt, valuesOf, placedAt}
 use Rattle.group6250.specs.declared.group.Group.{Group}
 use Rattle.group6250.proofs.Packed.{value-low, value-parity}
@@ -143,3 +146,18 @@ module _ (v : ℕ → ℕ) (i a j b : ℕ) (hi : i < 9) (hj : j < 9) (apart : (i
       ∙ differs (v k) (errorAt i a k) (errorAt j b k) (one-none k)
       ∙ ap₂ _+_ (some-picked (eqb k i) a) (some-picked (eqb k j) b)))
       ∙ marked (eqb a 0) (eqb b 0) i j hi hj)
+
+-- ---- a group without error
+
+-- with no error and no track pointed, the group that fits is the one that was read
+pub clean-judged : (v : ℕ → ℕ) → paritySyndrome 8 v ≡ 0 → checkSyndrome 8 feedback v ≡ 0
+    → judged 8 feedback exponent v (pointedTracks 9 0) ≡ corrected (tabulate 9 v)
+unfolding judged without errorsOf oneError firstAccounting weighed shifts shift firstWhere pointedTracks keep below tabulate tabulateFrom bit
+clean-judged v e1 e2 =
+    ap₂ (λ (s1 s2 : ℕ). without 8 v (errorsOf 8 feedback exponent s1 s2 (pointedTracks 9 0))) e1 e2
+    ∙ ap corrected (tabulate-same 9 _ v
+    (λ k h. ap₂ (λ (x y : ℕ). v k ⊕ x ⊕ y) (no-error 0 k) (no-error 8 k) ∙ xor-zero-r (v k ⊕ 0) ∙ xor-zero-r (v k)))
+
+pub unchanged : (l : List ℕ) → changedMap 9 l l ≡ 0
+unfolding changedMap ofBits tabulate tabulateFrom
+unchanged l = ap ofBits (tabulate-same 9 _ (λ k. 0) (λ k h. some-zero (getD l k 0)))

@@ -72,15 +72,10 @@ fn one(track: usize, s1: u8) -> Errors
     })
 }
 
-// No track is pointed: one may be wrong. Most groups have no error, and that is seen first.
+// No track is pointed: one may be wrong.
 fn unpointed(s1: u8, s2: u8) -> Errors
     ensures { λ r. ⌜ toldErrors r ≡ oneError 8 feedback s1 s2 (below tracks) ⌝ }
 {
-    if s1 == 0 {
-        if s2 == 0 {
-            return one(0, s1);
-        }
-    }
     let track = located(s1, s2);
     if track < Code6250::TRACKS {
         return one(track, s1);

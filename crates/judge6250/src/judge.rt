@@ -7,9 +7,11 @@ use group6250::group::parity;
 use group6250::group::placed;
 use products::check_syndrome;
 use rectangular::Code6250;
+ghost use mathlib.Core.Bool.{_&&_};
 ghost use mathlib.Core.Path.{_≡_};
 ghost use mathlib.Core.Logic.{_⊎_};
 ghost use Prim.Native.Nat.{_^_, _<_};
+ghost use lib.Dec.{eqb};
 ghost use lib.ListN.{getD};
 ghost use Rattle.indexed.specs.List.{tabulate};
 ghost use Rattle.register.specs.Xor.{_⊕_};
@@ -61,6 +63,18 @@ fn corrected(group: Group, pair: ErrorPair) -> Correction
     }
 }
 
+// No error and no track pointed, as most groups have it, is seen at once.
+fn is_clean(s1: u8, s2: u8, pointers: u16) -> bool
+    ensures { λ r. ⌜ r ≡ (eqb s1 0 && eqb s2 0 && eqb pointers 0) ⌝ }
+{
+    if s1 == 0 {
+        if s2 == 0 {
+            return pointers == 0;
+        }
+    }
+    false
+}
+
 // Judges a group by the tracks that are pointed, bit i of the map for track i.
 pub fn judge(group: Group, pointers: u16) -> Judged
     requires { ⌜ pointers < 2 ^ tracks ⌝ }
@@ -69,6 +83,9 @@ pub fn judge(group: Group, pointers: u16) -> Judged
 {
     let s1 = parity(group.tracks) ^ group.parity;
     let s2 = check_syndrome(group.tracks);
+    if is_clean(s1, s2, pointers) {
+        return Judged::Corrected(Correction { group, changed: 0 });
+    }
     match errors_of(s1, s2, pointers) {
         Errors::In(pair) => Judged::Corrected(corrected(group, pair)),
         Errors::TooMany => Judged::ManyPointed,

@@ -13,3 +13,4 @@ pub mod Fitting
 pub mod Refused
 pub mod Undamaged
 pub mod Backward
+pub mod AsBefore

@@ -94,7 +94,7 @@ words-small backward numbers e k h =
 
 -- ---- turned
 
-reversed-test : (word : ℕ) → ltb 1023 (reversedWord word) ≡ ltb 1023 word
+pub reversed-test : (word : ℕ) → ltb 1023 (reversedWord word) ≡ ltb 1023 word
 reversed-test word = by (decLt word 1024)
   where
     by : Dec (word < 1024) → ltb 1023 (reversedWord word) ≡ ltb 1023 word

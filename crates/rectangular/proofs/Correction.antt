@@ -22,7 +22,7 @@ use Rattle.rectangular.specs.Syndrome.{paritySyndrome, checkSyndrome, Er
 use Rattle.rectangular.proofs.Constants.{exponent-of-T}
 use Rattle.rectangular.proofs.Distance.{two-tracks, three-tracks}
 use Rattle.rectangular.proofs.Equations.{group-ext}
-use Rattle.rectangular.proofs.Errors.{below-within, Accounts, OneFound, one-error, one-found, two-errors, errors-many, errors-none}
+use Rattle.rectangular.proofs.Errors.{below-within, Accounts, OneFound, one-error, one-found, two-errors, errors-many, errors-none, errors-two}
 use Rattle.rectangular.proofs.Pointed.{pointed-lt, pointed-ascends, pointed-bit, outside}
 use Rattle.rectangular.proofs.Suits.{nine-tracks}
 use Rattle.rectangular.proofs.Syndrome.{no-error, untouched, parity-lt, check-lt, corrects-two, accounts}
@@ -220,6 +220,11 @@ module _ (w f n : ℕ) (v : ℕ → ℕ) (l : List ℕ) where
   pub judged-none : judged w f n v l ≡ noGroup → length l ≤ 1
   unfolding judged
   judged-none e = errors-none w f n (paritySyndrome w v) (checkSyndrome w f v) l (none-told _ e)
+
+  -- two pointed tracks always have one
+  pub judged-two : length l ≡ 2 → (u : List ℕ) × (judged w f n v l ≡ corrected u)
+  unfolding judged without twoErrors
+  judged-two e = (_, ap (without w v) (errors-two w f n (paritySyndrome w v) (checkSyndrome w f v) l e .2))
 
 -- ---- nine tracks
 

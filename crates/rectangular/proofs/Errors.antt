@@ -122,6 +122,13 @@ module _ (w f n s1 s2 : ℕ) where
   errors-none (i ∷ j ∷ []) e = let z : _≡_ {A = ℕ} 0 1 = cc in absurd (omega arith)
   errors-none (i ∷ j ∷ k ∷ more) e = let z : _≡_ {A = ℕ} 0 1 = cc in absurd (omega arith)
 
+  pub errors-two : (l : List ℕ) → length l ≡ 2 → (i : ℕ) × (j : ℕ) × (errorsOf w f n s1 s2 l ≡ twoErrors w f n s1 s2 i j)
+  unfolding errorsOf
+  errors-two [] e = absurd (omega arith)
+  errors-two (i ∷ []) e = absurd (omega arith)
+  errors-two (i ∷ j ∷ []) e = (i, j, refl)
+  errors-two (i ∷ j ∷ k ∷ more) e = absurd (omega arith)
+
 -- the tracks of two errors are within the group, and the second is behind the first or has none
 pub record Apart (w i j b : ℕ) : Type 0 where
   pub first : i ≤ w
