@@ -2,15 +2,15 @@
 -- first k elements, and behind them what it held.
 -- Assumes nothing.
 use mathlib.Core.Path.{_≡_, sym, ap, ap₂, _∙_}
-use mathlib.Core.List.{List, _++_}
+use mathlib.Core.List.{List, [], _∷_, _++_}
 use Prim.Native.Nat.{ℕ, suc, _+_, _≤_, _<_}
 use native.Mathlib.Nat.{le-of-lt, add-sub-of-le}
 use native.Mathlib.Numerals.{add-one}
 use lib.ListN.{length, getD, take, drop, set, length-append, length-drop}
-use lib.Seq.{drop-cons, take-suc, set-at, append-snoc, length-take-le, take-length}
+use lib.Seq.{drop-cons, take-suc, set-at, append-snoc, length-take-le, take-length, take-at}
 use native.Mathlib.Omega.{arith}
 use Rattle.indexed.specs.List.{tabulate}
-use Rattle.indexed.proofs.Tabulate.{length-tabulate, getD-tabulate}
+use Rattle.indexed.proofs.Tabulate.{length-tabulate, getD-tabulate, tabulate-last}
 
 abbrev pub front : {A : Type 0} → ℕ → List A → List A → List A
 front k result output = take k result ++ drop k output
@@ -47,3 +47,15 @@ module _ (n : ℕ) (f : ℕ → ℕ) (out l : List ℕ) (k : ℕ) where
   pub filled-all : l ≡ front k (tabulate n f) out → k ≡ n → l ≡ tabulate n f ++ drop n out
   filled-all hl h =
       hl ∙ front-all k (tabulate n f) out (h ∙ sym (length-tabulate n f)) ∙ ap (λ (j : ℕ). tabulate n f ++ drop j out) h
+
+-- one value more behind those that are stored
+pub tabulated-more : (f : ℕ → ℕ) (out : List ℕ) (k v : ℕ) → k < length out → v ≡ f k
+    → set (tabulate k f ++ drop k out) k v ≡ tabulate (k + 1) f ++ drop (k + 1) out
+tabulated-more f out k v h e =
+    let all : List ℕ = tabulate (suc k) f in
+    let before : tabulate k f ≡ take k all =
+    sym (take-at (tabulate k f) (f k ∷ []) k (length-tabulate k f)) ∙ ap (take k) (sym (tabulate-last k f)) in
+    ap₂ (λ (l : List ℕ) (x : ℕ). set (l ++ drop k out) k x) before (e ∙ sym (getD-tabulate (suc k) f k 0 (omega arith)))
+    ∙ front-more k all out 0 (omega (arith, length-tabulate (suc k) f)) h
+    ∙ front-all (k + 1) all out (add-one k ∙ sym (length-tabulate (suc k) f))
+    ∙ ap (λ (n : ℕ). tabulate n f ++ drop (k + 1) out) (sym (add-one k))

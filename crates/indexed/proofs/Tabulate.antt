@@ -4,7 +4,9 @@ use mathlib.Core.Path.{_≡_, refl, sym, ap, ap₂, _∙_}
 use mathlib.Core.List.{List, [], _∷_, _++_}
 use Prim.Native.Nat.{ℕ, zero, suc, _+_, _<_, suc-le-suc}
 use native.Mathlib.Nat.{add-zero, zero-add, add-suc, suc-add, not-suc-le-zero, le-of-suc-le-suc, zero-lt-suc}
+use native.Mathlib.Omega.{arith}
 use lib.ListN.{length, getD}
+use lib.Seq.{ext-getD}
 use Rattle.indexed.specs.List.{tabulate, tabulateFrom}
 
 length-from : {A : Type 0} (i n : ℕ) (f : ℕ → A) → length (tabulateFrom i n f) ≡ n
@@ -64,3 +66,8 @@ from-last i (suc n) f =
 pub tabulate-last : {A : Type 0} (n : ℕ) (f : ℕ → A) → tabulate (suc n) f ≡ tabulate n f ++ (f n ∷ [])
 unfolding tabulate
 tabulate-last n f = from-last 0 n f ∙ ap (λ (k : ℕ). tabulateFrom 0 n f ++ (f k ∷ [])) (zero-add n)
+
+-- a list by its elements, one by one
+pub tabulate-getD : (n : ℕ) (l : List ℕ) → length l ≡ n → tabulate n (λ k. getD l k 0) ≡ l
+tabulate-getD n l long =
+    ext-getD 0 _ _ (length-tabulate n _ ∙ sym long) (λ k h. getD-tabulate n _ k 0 (omega (arith, length-tabulate n (λ k. getD l k 0))))

@@ -37,13 +37,6 @@ differences-same zero u v s t e = refl
 differences-same (suc n) u v s t e =
     ap₂ (λ (x : ℕ) (b : Bool). x + cond b 0 1) (differences-same n u v s t (λ k h. e k (omega arith))) (e n (le-refl (suc n)))
 
-pub differences-zero : (n : ℕ) (u v : ℕ → ℕ) → ((k : ℕ) → k < n → u k ≡ v k) → differences n u v ≡ 0
-unfolding differences
-differences-zero zero u v e = refl
-differences-zero (suc n) u v e =
-    ap₂ (λ (x : ℕ) (b : Bool). x + cond b 0 1) (differences-zero n u v (λ k h. e k (omega arith)))
-    (eq-eqb (u n) (v n) (e n (le-refl (suc n))))
-
 pub differences-split : (m n : ℕ) (u v : ℕ → ℕ)
     → differences (m + n) u v ≡ differences m u v + differences n (λ k. u (m + k)) (λ k. v (m + k))
 unfolding differences

@@ -10,10 +10,9 @@ use native.Mathlib.Omega.{arith}
 use borrow.Author.Tests.{lt-ltb, le-ltb, ltb-false}
 use lib.Dec.{ltb}
 use lib.ListN.{length, getD}
-use lib.Seq.{ext-getD}
-use Rattle.indexed.specs.List.{tabulate, firstBelow}
+use Rattle.indexed.specs.List.{firstBelow}
 use Rattle.indexed.proofs.Below.{first-below-before, first-below-none, first-below-same}
-use Rattle.indexed.proofs.Tabulate.{length-tabulate, getD-tabulate, tabulate-same}
+use Rattle.indexed.proofs.Tabulate.{length-tabulate, getD-tabulate, tabulate-same, tabulate-getD}
 use Rattle.group_code.specs.Word.{reversedWord, forwardWord}
 use Rattle.group_code.proofs.Words.{reversed-lt, reversed-above, reversed-twice}
 use Rattle.record6250.specs.Tape.{numbersAt, strayNumbers, wordsFrom, numbersFrom, turnedGroup}
@@ -42,20 +41,15 @@ length-turnedGroup numbers = length-tabulate 9 _
 
 -- ---- words and numbers
 
-forward-is : (l : List ℕ) → length l ≡ 9 → tabulate 9 (λ k. getD l k 0) ≡ l
-forward-is l nine =
-    ext-getD 0 _ _ (length-tabulate 9 _ ∙ sym nine)
-    (λ k h. getD-tabulate 9 _ k 0 (omega (arith, length-tabulate 9 (λ k. getD l k 0))))
-
 -- nine words, written and read forward
 pub words-back : (words : List ℕ) → length words ≡ 9 → wordsFrom false (numbersFrom words) ≡ words
 unfolding wordsFrom numbersFrom forwardWord
-words-back = forward-is
+words-back = tabulate-getD 9
 
 -- the numbers of a group, read forward and written
 pub numbers-back : (numbers : List ℕ) → length numbers ≡ 9 → strayNumbers numbers ≡ false → numbersFrom (wordsFrom false numbers) ≡ numbers
 unfolding wordsFrom numbersFrom forwardWord
-numbers-back numbers nine none = forward-is numbers nine
+numbers-back numbers nine none = tabulate-getD 9 numbers nine
 
 -- ---- stray bits
 

@@ -18,7 +18,8 @@ use Rattle.indexed.specs.Differ.{differences}
 use Rattle.indexed.specs.List.{tabulate, total}
 use Rattle.indexed.proofs.Below.{first-below-at, first-below-none}
 use Rattle.indexed.proofs.Tabulate.{length-tabulate, getD-tabulate, tabulate-same}
-use Rattle.indexed.proofs.Total.{total-same, differences-total, differences-zero}
+use Rattle.indexed.proofs.Differ.{differences-none}
+use Rattle.indexed.proofs.Total.{total-same, differences-total}
 use Rattle.register.specs.Bit.{bit}
 use Rattle.register.specs.Parity.{parity}
 use Rattle.register.specs.Sum.{xorSum}
@@ -107,8 +108,8 @@ module _ (backward : Bool) (characters : List ℕ) (passes : Passes backward cha
         λ k h. let b : k < n + checks = omega (arith, as-counted backward characters passes) in
         sym (right-candidate k b ∙ candidate-same n l e (f .track) k b) in (
           first-below-none tracks _
-              (λ t h. le-ltb 0 (changedIn t) (le-of-eq (differences-zero (length characters) _ _ (λ k b. ap (bit t) (same k b))))),
-          differences-zero (length characters) _ _ same,
+              (λ t h. le-ltb 0 (changedIn t) (le-of-eq (differences-none _ _ (length characters) (λ k b. ap (bit t) (same k b))))),
+          differences-none _ _ (length characters) same,
         )
 
     pub changed : 0 < wrongCount n l
@@ -125,7 +126,7 @@ module _ (backward : Bool) (characters : List ℕ) (passes : Passes backward cha
 
         elsewhere : (t : ℕ) → t < f .track → changedIn t ≡ 0
         elsewhere t h =
-            differences-zero (length characters) _ _ (λ k b. f .one-track t (omega (arith, f .is-track)) (λ q. omega arith) k b)
+            differences-none _ _ (length characters) (λ k b. f .one-track t (omega (arith, f .is-track)) (λ q. omega arith) k b)
 
         in-track : changedIn (f .track) ≡ wrongCount n l
         in-track =

@@ -1,8 +1,8 @@
 -- A walk over the groups of a reading: what is known where it stops, and what it has gathered.
 -- Assumes nothing.
-use mathlib.Core.Path.{_≡_, sym, ap, ap₂, _∙_}
+use mathlib.Core.Path.{_≡_, sym, ap, _∙_}
 use mathlib.Core.Bool.{Bool, true, false, cond, not}
-use mathlib.Core.List.{List, [], _∷_, _++_}
+use mathlib.Core.List.{List, [], _∷_}
 use Prim.Native.Nat.{ℕ, zero, suc, _+_, _-_, _*_, _<_, _≤_}
 use native.Mathlib.Numerals.{add-one}
 use native.Mathlib.Omega.{arith}
@@ -10,12 +10,11 @@ use borrow.Author.Tests.{lt-ltb, le-ltb}
 use native.Mathlib.Nat.{le-refl}
 use lib.Count.{ones, ones-le}
 use lib.Dec.{ltb}
-use lib.ListN.{length, take, drop, set}
-use lib.Seq.{take-at}
-use Rattle.indexed.specs.List.{tabulate, total}
-use Rattle.indexed.proofs.Front.{front-more, front-all}
+use lib.ListN.{length, set}
+use Rattle.indexed.specs.List.{total}
+use Rattle.indexed.proofs.Front.{tabulated-more}
 use Rattle.indexed.proofs.Below.{first-below-at, first-below-none}
-use Rattle.indexed.proofs.Tabulate.{length-tabulate, getD-tabulate, tabulate-same, tabulate-last}
+use Rattle.indexed.proofs.Tabulate.{tabulate-same}
 use Rattle.answer.specs.Answer.{Answer, delivered, refusedFor}
 use Rattle.rectangular.specs.Correction.{Judgement, corrected}
 use Rattle.rectangular.specs.Group.{informationOf}
@@ -127,12 +126,4 @@ module _ (backward : Bool) (words maps : List ℕ) where
   pub maps-more : (g : ℕ) (out : List ℕ) (m : ℕ) → g < length out → m ≡ changedTracks backward words maps g
       → set (mapsGathered backward words maps g out) g m ≡ mapsGathered backward words maps (g + 1) out
   unfolding mapsGathered
-  maps-more g out m h e =
-      let marks = changedTracks backward words maps in
-      let all : List ℕ = tabulate (suc g) marks in
-      let before : tabulate g marks ≡ take g all =
-      sym (take-at (tabulate g marks) (marks g ∷ []) g (length-tabulate g marks)) ∙ ap (take g) (sym (tabulate-last g marks)) in
-      ap₂ (λ (l : List ℕ) (v : ℕ). set (l ++ drop g out) g v) before (e ∙ sym (getD-tabulate (suc g) marks g 0 (le-refl (suc g))))
-      ∙ front-more g all out 0 (omega (arith, length-tabulate (suc g) marks)) h
-      ∙ front-all (g + 1) all out (add-one g ∙ sym (length-tabulate (suc g) marks))
-      ∙ ap (λ (n : ℕ). tabulate n marks ++ drop (g + 1) out) (sym (add-one g))
+  maps-more g out m h e = tabulated-more (changedTracks backward words maps) out g m h e

@@ -2,15 +2,12 @@
 -- Assumes nothing.
 use mathlib.Core.Path.{_≡_, refl, sym, ap, ap₂, _∙_}
 use mathlib.Core.Bool.{Bool, true, false, _&&_, false≢true}
-use mathlib.Core.List.{List}
 use Prim.Native.Nat.{ℕ}
 use native.Mathlib.Omega.{arith}
 use borrow.Author.Needs.{needs}
 use borrow.Author.Tests.{eqb-true}
-use lib.ListN.{length, getD}
-use lib.Seq.{ext-getD}
-use Rattle.indexed.specs.List.{tabulate}
-use Rattle.indexed.proofs.Tabulate.{length-tabulate, getD-tabulate}
+use lib.ListN.{getD}
+use Rattle.indexed.proofs.Tabulate.{tabulate-getD}
 use Rattle.rectangular.specs.Constants.{feedback, exponent}
 use Rattle.rectangular.specs.Correction.{pointedTracks, corrected, without, judged}
 use Rattle.rectangular.specs.Syndrome.{paritySyndrome, checkSyndrome, Errors, errorsOf}
@@ -29,11 +26,6 @@ all-hold true true true e = (refl, refl, refl)
 all-hold true true false e = absurd (false≢true e)
 all-hold true false c e = absurd (false≢true e)
 all-hold false b c e = absurd (false≢true e)
-
--- nine values, one by one
-itself : (l : List ℕ) → length l ≡ 9 → tabulate 9 (λ k. getD l k 0) ≡ l
-itself l nine =
-    ext-getD 0 _ _ (length-tabulate 9 _ ∙ sym nine) (λ k h. getD-tabulate 9 _ k 0 (omega (arith, length-tabulate 9 (λ k. getD l k 0))))
 
 parity-requires : tie.Need-parity-requires
 parity-requires c κs = search needs
@@ -84,7 +76,7 @@ returns c =
     let s2 = sym (check-syndrome g _ (c .before .before .check-syndrome .ensures)) ∙ eqb-true _ 0 (clean .1) in (
       sym (ap (λ (p : ℕ). judged 8 feedback exponent (λ k. getD (valuesOf g) k 0) (pointedTracks 9 p)) none
           ∙ clean-judged (λ k. getD (valuesOf g) k 0) s1 s2
-          ∙ ap corrected (itself (valuesOf g) (length-values g))),
+          ∙ ap corrected (tabulate-getD 9 (valuesOf g) (length-values g))),
       sym (unchanged (valuesOf g)),
     )
 
