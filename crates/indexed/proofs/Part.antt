@@ -13,7 +13,7 @@ use Rattle.indexed.proofs.Blocks.{stored, stored-more}
 pub part-to-end : {A : Type 0} (a : ℕ) (l : List A) → take (length l - a) (drop a l) ≡ drop a l
 part-to-end a l = take-all (length l - a) (drop a l) (omega (arith, length-drop a l))
 
-pub part-back : {A : Type 0} (a : ℕ) (l part : List A) → putMid a (length l - a) l part ≡ take a l ++ part
+part-back : {A : Type 0} (a : ℕ) (l part : List A) → putMid a (length l - a) l part ≡ take a l ++ part
 part-back a l part =
     ap (λ (r : List _). take a l ++ (part ++ r))
     (drop-of-length-le (drop a l) {i = length l - a} (omega (arith, length-drop a l)))

@@ -22,7 +22,7 @@ pub(crate) fn bit_of(value: u16, k: usize) -> u16
 fn reversed_word(word: u16) -> u16
     ensures { λ r. ⌜ r ≡ reversedWord word ⌝ }
 {
-    if word > 1023 {
+    if word > Code6250::MOST_WORD {
         return word;
     }
     let mut reversed: u16 = 0;
@@ -41,8 +41,8 @@ fn forward_word(backward: bool, word: u16) -> u16
     if backward { reversed_word(word) } else { word }
 }
 
-// The word of a track in group g of so many, from the numbers that are lent. How a group lies among them is known here
-// and nowhere else.
+// The word of a track in group g of so many, from the numbers that are lent. In this crate only this
+// function knows how a group lies among them.
 pub(crate) fn word_read(backward: bool, words: &[u16], groups: usize, g: usize, track: usize) -> u16
     requires { ⌜ (numbersPerGroup * groups ≤ length (now words)) × (g < groups) × (track < tracks) ⌝ }
     ensures { λ r. ⌜ r ≡ wordRead backward (now (words .entry)) groups g track ⌝ }

@@ -70,7 +70,7 @@ fn is_pointed(map: u16, track: usize) -> bool
 fn is_illegal(word: u16) -> bool
     ensures { λ r. ⌜ r ≡ isIllegal word ⌝ }
 {
-    if word > 1023 {
+    if word > Code6250::MOST_WORD {
         return true;
     }
     let readings = group_code::forward_readings();

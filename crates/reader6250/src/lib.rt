@@ -6,3 +6,5 @@ pub use direction::read_backward;
 pub use direction::read_forward;
 pub use direction::read_record;
 pub use reader::read_by;
+pub use scan6250::Figures;
+pub use scan6250::Read;

@@ -57,28 +57,14 @@ fn read_within(
     }
 }
 
-// Reads a record, forward or backward, by the table of that direction, which is lent (decision D11). A short record takes
-// small arrays, since an array is cleared.
-pub fn read_by(
-    words: &[u16],
-    maps: &[u16],
-    backward: bool,
-    table: &[u16],
-    output: &mut [u8],
-) -> Read
-    requires { ⌜ now table ≡ readings backward ⌝ }
-    ensures answer { λ r. ⌜ toldRead r ≡ readAnswer backward (now (words .entry)) (now (maps .entry)) (length (now (output .entry))) ⌝ }
+// Reads a record whose lengths and space suit, into arrays of its own. A short record takes small ones, since an array is
+// cleared.
+fn read_sized(words: &[u16], maps: &[u16], backward: bool, table: &[u16], output: &mut [u8]) -> Read
+    requires { ⌜ (lengthsSuit (length (now words)) (length (now maps)) ≡ true) × (bytesPerGroup * length (now maps) - 1 ≤ length (now output)) × (now table ≡ readings backward) ⌝ }
+    ensures answer { λ r. ⌜ toldRead r ≡ answerIf backward (now (words .entry)) (now (maps .entry)) true ⌝ }
     ensures output { λ r. ⌜ now (output .exit) ≡ outputAfter (toldRead r) (readData backward (now (words .entry)) (now (maps .entry))) (now (output .entry)) ⌝ }
-    ensures terms { λ r. ⌜ Terms (Call.read (at6250 backward (now (words .entry)) (now (maps .entry)))) (toldRead r) (now (output .entry)) (now (output .exit)) ⌝ }
 {
-    let groups = maps.len();
-    if !lengths_suit(words.len(), groups) {
-        return refused(Reason::Length, 0);
-    }
-    if output.len() < groups * Code6250::BYTES - 1 {
-        return refused(Reason::Space, 0);
-    }
-    if groups <= SHORT {
+    if maps.len() <= SHORT {
         let mut body = [0u8; SHORT * Code6250::BYTES];
         let mut changed = [0u16; SHORT];
         return read_within(
@@ -102,4 +88,27 @@ pub fn read_by(
         &mut changed,
         output,
     )
+}
+
+// Reads a record, forward or backward, by the table of that direction, which is lent (decisions D11 and D12).
+pub fn read_by(
+    words: &[u16],
+    maps: &[u16],
+    backward: bool,
+    table: &[u16],
+    output: &mut [u8],
+) -> Read
+    requires { ⌜ now table ≡ readings backward ⌝ }
+    ensures answer { λ r. ⌜ toldRead r ≡ readAnswer backward (now (words .entry)) (now (maps .entry)) (length (now (output .entry))) ⌝ }
+    ensures output { λ r. ⌜ now (output .exit) ≡ outputAfter (toldRead r) (readData backward (now (words .entry)) (now (maps .entry))) (now (output .entry)) ⌝ }
+    ensures terms { λ r. ⌜ Terms (Call.read (at6250 backward (now (words .entry)) (now (maps .entry)))) (toldRead r) (now (output .entry)) (now (output .exit)) ⌝ }
+{
+    let groups = maps.len();
+    if !lengths_suit(words.len(), groups) {
+        return refused(Reason::Length, 0);
+    }
+    if output.len() < groups * Code6250::BYTES - 1 {
+        return refused(Reason::Space, 0);
+    }
+    read_sized(words, maps, backward, table, output)
 }

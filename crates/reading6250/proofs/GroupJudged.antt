@@ -120,7 +120,7 @@ changed-word k word value right hw hr e = by (ℕ-discrete (illegality word) 0)
         or-one true = refl
         or-one false = refl
 
-pub changed-words : (ws values right : List ℕ) → ((k : ℕ) → k < 9 → getD ws k 0 < 1024) → ((k : ℕ) → k < 9 → getD right k 0 < 256)
+changed-words : (ws values right : List ℕ) → ((k : ℕ) → k < 9 → getD ws k 0 < 1024) → ((k : ℕ) → k < 9 → getD right k 0 < 256)
     → ((k : ℕ) → k < 9 → getD values k 0 ≡ valueOn k (getD ws k 0))
     → bitOr (changedMap 9 values right) (illegalMap ws) ≡ changedMap 9 ws (wordsOf right)
 unfolding changedMap illegalMap

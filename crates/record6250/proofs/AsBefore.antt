@@ -1,25 +1,35 @@
--- Two definitions that go by how a group lies on tape say what document 01's words say: changes counted over all words of the forward
--- picture, and stray bits in the words as they stand there.
+-- Definitions that go by how a group lies on tape, by a track's own word or by the tracks relied on say what the words of document 01 say
+-- with neither: changes counted over all words of the forward picture, stray bits in the words as they stand there, words by the group
+-- code, groups turned, and pointed tracks. A request that changes one of these names changes its law here.
 -- Assumes nothing.
 use mathlib.Core.Path.{_≡_, refl, sym, ap, ap₂, _∙_}
-use mathlib.Core.Bool.{Bool, true, false}
-use mathlib.Core.List.{List}
-use Prim.Native.Nat.{ℕ, _+_, _*_, _<_}
+use mathlib.Core.Bool.{Bool, true, false, _||_}
+use mathlib.Core.List.{List, _++_, map}
+use Prim.Native.Nat.{ℕ, _+_, _*_, _/_, _<_}
+use native.Mathlib.Omega.{arith}
 use lib.Dec.{eqb, ltb}
-use lib.ListN.{length, getD}
+use lib.ListN.{length, getD, drop, length-map}
+use lib.Seq.{ext-getD}
 use Rattle.slices.specs.Turned.{turnedPlace}
 use Rattle.indexed.specs.Differ.{differences}
 use Rattle.indexed.specs.List.{blocks, firstBelow}
 use Rattle.indexed.proofs.Below.{first-below-same}
 use Rattle.indexed.proofs.Blocks.{getD-blocks}
-use Rattle.indexed.proofs.Tabulate.{getD-tabulate}
+use Rattle.indexed.proofs.Tabulate.{length-tabulate, getD-tabulate}
+use Rattle.indexed.proofs.Map.{getD-map}
 use Rattle.indexed.proofs.Total.{total-same, differences-same, differences-blocks}
+use Rattle.group_code.specs.Code.{wordOf}
 use Rattle.group_code.specs.Word.{forwardWord}
+use Rattle.rectangular.specs.Constants.{feedback}
+use Rattle.rectangular.specs.Group.{group}
+use Rattle.rectangular.proofs.Equations.{length-group}
 use Rattle.record6250.specs.Fits.{wordsChanged}
-use Rattle.record6250.specs.Picture.{groupLent, groupRead}
-use Rattle.record6250.specs.Read.{readGroup}
-use Rattle.record6250.specs.Record.{writtenRecord}
-use Rattle.record6250.specs.Tape.{numbersAt, strayNumbers, wordsFrom}
+use Rattle.record6250.specs.Group.{pointed, reliedOn, relied}
+use Rattle.record6250.specs.Picture.{groupLent, groupRead, turnedNumbers}
+use Rattle.record6250.specs.Read.{readNumbers, readGroup, readMap, strayAt, firstStray}
+use Rattle.record6250.specs.Record.{groupWords, writtenRecord}
+use Rattle.record6250.specs.Tape.{numbersAt, strayNumbers, wordsFrom, turnedGroup}
+use Rattle.record6250.specs.Track.{wordOn, wordsOf}
 use Rattle.record6250.proofs.Picture.{length-read}
 use Rattle.record6250.proofs.Tape.{getD-numbersAt, reversed-test}
 
@@ -55,3 +65,31 @@ stray-as-read backward numbers =
     forward-test : (b : Bool) (word : ℕ) → ltb 1023 (forwardWord b word) ≡ ltb 1023 word
     forward-test true word = reversed-test word
     forward-test false word = refl
+
+module _ (backward : Bool) (words maps : List ℕ) where
+  pub first-stray-as-read : firstStray backward words maps
+      ≡ firstBelow (length maps) (λ g. ltb (firstBelow 9 (λ k. ltb 1023 (getD (readGroup backward words maps g) k 0))) 9 || ltb 511 (readMap backward words maps g))
+  unfolding firstStray strayAt readNumbers readGroup groupRead
+  first-stray-as-read =
+      first-below-same (length maps) _ _
+      (λ g h. ap (λ (b : Bool). b || ltb 511 (readMap backward words maps g)) (stray-as-read backward (groupLent backward (length maps) words g)))
+
+-- the tracks relied on are those that are pointed
+pub relied-pointed : (words : List ℕ) (pointers : ℕ) → relied words pointers ≡ pointed words pointers
+unfolding relied reliedOn pointed
+relied-pointed words pointers = refl
+
+-- the words of a group are the words of its values, one by one
+pub words-as-coded : (info : List ℕ) → groupWords info ≡ map wordOf (group 8 feedback info)
+unfolding groupWords wordsOf wordOn
+words-as-coded info =
+    let values = group 8 feedback info in
+    ext-getD 0 _ _ (length-tabulate 9 _ ∙ sym (length-map values wordOf ∙ length-group 8 feedback info))
+    (λ k h. let b : k < 9 = omega (arith, length-tabulate 9 (λ k. wordOf (getD values k 0))) in
+    getD-tabulate 9 _ k 0 b ∙ sym (getD-map wordOf values k 0 0 (omega (arith, length-group 8 feedback info))))
+
+-- what is turned is the words of each group, read backward, last group first
+pub turned-as-read : (numbers : List ℕ)
+    → turnedNumbers numbers ≡ blocks (length numbers / 9) (groupRead true (length numbers / 9) numbers) ++ drop (9 * (length numbers / 9)) numbers
+unfolding turnedNumbers turnedGroup groupRead wordsFrom forwardWord
+turned-as-read numbers = refl

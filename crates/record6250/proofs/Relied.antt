@@ -1,7 +1,7 @@
--- The tracks that fitting relies on: a track that is none of them has a legal word, none are where nothing is pointed, and where there are
--- three, three are pointed.
+-- The tracks that fitting relies on: a track that is none of them has a legal word, none are where nothing is pointed, and there are three
+-- or more exactly where three or more are pointed.
 -- Assumes nothing.
-use mathlib.Core.Path.{_≡_, sym, ap, ap₂, subst, _∙_}
+use mathlib.Core.Path.{_≡_, sym, ap, subst, _∙_}
 use mathlib.Core.List.{List}
 use mathlib.Core.Logic.{_⊎_, inl, inr}
 use Prim.Native.Nat.{ℕ, _<_, _≤_, _^_}
@@ -50,6 +50,10 @@ module _ (words : List ℕ) (pointers : ℕ) where
   pub relied-many : 3 ≤ length (pointedTracks 9 (relied words pointers)) → 3 ≤ length (pointedTracks 9 (pointed words pointers))
   unfolding relied reliedOn pointed
   relied-many h = h
+
+  pub pointed-many : 3 ≤ length (pointedTracks 9 (pointed words pointers)) → 3 ≤ length (pointedTracks 9 (relied words pointers))
+  unfolding relied reliedOn pointed
+  pointed-many h = h
 
   pub pointed-few : length (pointedTracks 9 (relied words pointers)) ≤ 1 → length (pointedTracks 9 (pointed words pointers)) ≤ 2
   unfolding relied reliedOn pointed

@@ -7,7 +7,7 @@ use mathlib.Core.List.{List}
 use Prim.Native.Nat.{ℕ, _+_, _<_, _≤_}
 use native.Mathlib.Decide.{decLt}
 use native.Mathlib.Omega.{arith}
-use borrow.Author.Tests.{lt-ltb, le-ltb, ltb-false}
+use borrow.Author.Tests.{le-ltb, ltb-false}
 use lib.Dec.{ltb}
 use lib.ListN.{length, getD}
 use Rattle.indexed.specs.List.{firstBelow}
@@ -15,39 +15,40 @@ use Rattle.indexed.proofs.Below.{first-below-before, first-below-none, first-be
 use Rattle.indexed.proofs.Tabulate.{length-tabulate, getD-tabulate, tabulate-same, tabulate-getD}
 use Rattle.group_code.specs.Word.{reversedWord, forwardWord}
 use Rattle.group_code.proofs.Words.{reversed-lt, reversed-above, reversed-twice}
+use Rattle.rectangular.specs.Constants.{tracks, numbersPerGroup}
 use Rattle.record6250.specs.Tape.{numbersAt, strayNumbers, wordsFrom, numbersFrom, turnedGroup}
 
 -- ---- how many
 
-pub length-numbersAt : (numbers : List ℕ) (at : ℕ) → length (numbersAt numbers at) ≡ 9
+pub length-numbersAt : (numbers : List ℕ) (at : ℕ) → length (numbersAt numbers at) ≡ numbersPerGroup
 unfolding numbersAt
 length-numbersAt numbers at = length-tabulate 9 _
 
-pub getD-numbersAt : (numbers : List ℕ) (at k : ℕ) → k < 9 → getD (numbersAt numbers at) k 0 ≡ getD numbers (at + k) 0
+pub getD-numbersAt : (numbers : List ℕ) (at k : ℕ) → k < numbersPerGroup → getD (numbersAt numbers at) k 0 ≡ getD numbers (at + k) 0
 unfolding numbersAt
 getD-numbersAt numbers at k h = getD-tabulate 9 _ k 0 h
 
-pub length-wordsFrom : (backward : Bool) (numbers : List ℕ) → length (wordsFrom backward numbers) ≡ 9
+pub length-wordsFrom : (backward : Bool) (numbers : List ℕ) → length (wordsFrom backward numbers) ≡ tracks
 unfolding wordsFrom
 length-wordsFrom backward numbers = length-tabulate 9 _
 
-pub length-numbersFrom : (words : List ℕ) → length words ≡ 9 → length (numbersFrom words) ≡ 9
+pub length-numbersFrom : (words : List ℕ) → length words ≡ tracks → length (numbersFrom words) ≡ numbersPerGroup
 unfolding numbersFrom
 length-numbersFrom words nine = nine
 
-pub length-turnedGroup : (numbers : List ℕ) → length (turnedGroup numbers) ≡ 9
+pub length-turnedGroup : (numbers : List ℕ) → length (turnedGroup numbers) ≡ numbersPerGroup
 unfolding turnedGroup
 length-turnedGroup numbers = length-tabulate 9 _
 
 -- ---- words and numbers
 
 -- nine words, written and read forward
-pub words-back : (words : List ℕ) → length words ≡ 9 → wordsFrom false (numbersFrom words) ≡ words
+pub words-back : (words : List ℕ) → length words ≡ tracks → wordsFrom false (numbersFrom words) ≡ words
 unfolding wordsFrom numbersFrom forwardWord
 words-back = tabulate-getD 9
 
 -- the numbers of a group, read forward and written
-pub numbers-back : (numbers : List ℕ) → length numbers ≡ 9 → strayNumbers numbers ≡ false → numbersFrom (wordsFrom false numbers) ≡ numbers
+pub numbers-back : (numbers : List ℕ) → length numbers ≡ numbersPerGroup → strayNumbers numbers ≡ false → numbersFrom (wordsFrom false numbers) ≡ numbers
 unfolding wordsFrom numbersFrom forwardWord
 numbers-back numbers nine none = tabulate-getD 9 numbers nine
 
@@ -57,20 +58,20 @@ module _ (numbers : List ℕ) where
   abbrev first-stray : ℕ
   first-stray = firstBelow 9 (λ k. ltb 1023 (getD numbers k 0))
 
-  pub number-below : strayNumbers numbers ≡ false → (k : ℕ) → k < 9 → getD numbers k 0 < 1024
+  pub number-below : strayNumbers numbers ≡ false → (k : ℕ) → k < numbersPerGroup → getD numbers k 0 < 1024
   unfolding strayNumbers
   number-below e k h =
       let all : 9 ≤ first-stray = ltb-false first-stray 9 e in
       omega (arith, ltb-false 1023 (getD numbers k 0) (first-below-before 9 (λ k. ltb 1023 (getD numbers k 0)) k (omega arith)))
 
-  pub none-stray : ((k : ℕ) → k < 9 → getD numbers k 0 < 1024) → strayNumbers numbers ≡ false
+  pub none-stray : ((k : ℕ) → k < numbersPerGroup → getD numbers k 0 < 1024) → strayNumbers numbers ≡ false
   unfolding strayNumbers
   none-stray small =
       let all : first-stray ≡ 9 =
       first-below-none 9 (λ k. ltb 1023 (getD numbers k 0)) (λ k h. le-ltb 1023 (getD numbers k 0) (omega (arith, small k h))) in
       le-ltb first-stray 9 (omega arith)
 
-pub written-not-stray : (words : List ℕ) → ((k : ℕ) → k < 9 → getD words k 0 < 1024) → strayNumbers (numbersFrom words) ≡ false
+pub written-not-stray : (words : List ℕ) → ((k : ℕ) → k < tracks → getD words k 0 < 1024) → strayNumbers (numbersFrom words) ≡ false
 unfolding numbersFrom
 written-not-stray words small = none-stray words small
 
@@ -80,7 +81,7 @@ forward-lt true word h = reversed-lt word h
 forward-lt false word h = h
 
 -- a group without stray bits has words of ten bits
-pub words-small : (backward : Bool) (numbers : List ℕ) → strayNumbers numbers ≡ false → (k : ℕ) → k < 9 → getD (wordsFrom backward numbers) k 0 < 1024
+pub words-small : (backward : Bool) (numbers : List ℕ) → strayNumbers numbers ≡ false → (k : ℕ) → k < tracks → getD (wordsFrom backward numbers) k 0 < 1024
 unfolding wordsFrom
 words-small backward numbers e k h =
     rw (getD-tabulate 9 (λ k. forwardWord backward (getD numbers k 0)) k 0 h)
@@ -101,7 +102,7 @@ forward-turned true word = refl
 forward-turned false word = reversed-twice word
 
 module _ (numbers : List ℕ) where
-  turned-at : (k : ℕ) → k < 9 → getD (turnedGroup numbers) k 0 ≡ reversedWord (getD numbers k 0)
+  turned-at : (k : ℕ) → k < numbersPerGroup → getD (turnedGroup numbers) k 0 ≡ reversedWord (getD numbers k 0)
   unfolding turnedGroup
   turned-at k h = getD-tabulate 9 _ k 0 h
 

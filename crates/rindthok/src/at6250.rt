@@ -3,7 +3,7 @@ use crate::refused_status;
 use crate::written_status;
 use group_code::backward_readings;
 use group_code::forward_readings;
-use scan6250::Read;
+use reader6250::Read;
 ghost use mathlib.Core.Bool.{true, false};
 ghost use mathlib.Core.List.{[], _∷_};
 ghost use mathlib.Core.Path.{_≡_};

@@ -1,4 +1,5 @@
--- A record that is delivered: all of its groups are gathered, and its data stand in front of the body.
+-- A record that is delivered: all of its groups are gathered, its data stand in front of the body, and the maps of its changed tracks in
+-- front of theirs.
 -- Assumes nothing.
 use mathlib.Core.Path.{_≡_, refl, sym, ap, _∙_}
 use mathlib.Core.Bool.{Bool, true}
@@ -7,16 +8,20 @@ use mathlib.Core.Logic.{inl, inr}
 use Prim.Native.Nat.{ℕ, _-_, _*_, _≤_}
 use native.Mathlib.Nat.{le-of-eq}
 use native.Mathlib.Omega.{arith}
-use lib.ListN.{length, take, drop, length-append}
-use lib.Seq.{length-take-le, take-append-le, take-take}
-use Rattle.answer.specs.Answer.{Answer, delivered}
+use lib.Count.{ones}
+use lib.ListN.{length, getD, take, drop, length-append}
+use lib.Seq.{length-take-le, take-append-le, take-at}
+use Rattle.indexed.specs.List.{total}
+use Rattle.indexed.proofs.Tabulate.{length-tabulate, getD-tabulate}
+use Rattle.indexed.proofs.Total.{total-same}
+use Rattle.answer.specs.Answer.{delivered}
 use Rattle.answer.proofs.Apart.{not-both}
 use Rattle.record6250.specs.Fits.{Passes}
-use Rattle.record6250.specs.Read.{lastByte, unpadded, firstStray, firstUnfit, readBody, readData, changes, judgedAnswer, answerIf}
+use Rattle.record6250.specs.Read.{lastByte, unpadded, firstStray, firstUnfit, readBody, readData, changedMaps, changes, judgedAnswer, answerIf}
 use Rattle.record6250.proofs.Answer.{all-passed, delivered-if}
 use Rattle.record6250.proofs.Cases.{ThreeCases, cases}
 use Rattle.record6250.proofs.Reading.{groups-within}
-use Rattle.scan6250.specs.Told.{reached, bytesGathered}
+use Rattle.scan6250.specs.Told.{reached, bytesGathered, mapsGathered}
 use Rattle.scan6250.proofs.Padded.{body-size, gathered, reached-unfit}
 
 module _ (backward : Bool) (words maps : List ℕ) (figures : List ℕ) (is-delivered : answerIf backward words maps true ≡ delivered figures) where
@@ -63,3 +68,15 @@ module _ (backward : Bool) (words maps : List ℕ) (figures : List ℕ) (is-deli
         ap (take (length (take count body))) whole
         ∙ take-append-le (length (take count body)) body (drop (7 * length maps) before) (omega arith)
         ∙ ap (λ (n : ℕ). take n body) long
+
+    -- and the maps of the tracks that are changed, in front of theirs
+    pub maps-in-front : take (length maps) (mapsGathered backward words maps (reached backward words maps) before) ≡ changedMaps backward words maps
+    unfolding mapsGathered changedMaps
+    maps-in-front =
+        ap (λ (n : ℕ). take (length maps) (mapsGathered backward words maps n before)) (reached-unfit backward words maps late ∙ both .0)
+        ∙ take-at (changedMaps backward words maps) (drop (length maps) before) (length maps) (length-tabulate (length maps) _)
+
+  -- whose ones are the changes told
+  pub changes-are : changes backward words maps ≡ total (length maps) (λ g. ones (getD (changedMaps backward words maps) g 0))
+  unfolding changes changedMaps
+  changes-are = total-same (length maps) _ _ (λ g h. ap ones (sym (getD-tabulate (length maps) _ g 0 h)))

@@ -12,7 +12,6 @@ use Rattle.answer.specs.Answer.{Answer, delivered, outputAfter}
 use Rattle.record6250.proofs.Answer as sixAnswer
 use Rattle.record6250.proofs.Backward as sixBackward
 use Rattle.record6250.proofs.Picture.{length-maps}
-use Rattle.record6250.proofs.Reading.{words-long}
 use Rattle.record6250.proofs.Record as sixRecord
 use Rattle.record6250.proofs.Undamaged as sixUndamaged
 use Rattle.record6250.specs.Record as sixSpecs

@@ -2,4 +2,5 @@
 mod group;
 mod writer;
 
+pub use answer::Written;
 pub use writer::write;

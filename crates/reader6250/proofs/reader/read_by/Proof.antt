@@ -60,49 +60,18 @@ returns-2 c =
     refused-with-terms _ _ (read (at6250 (args .backward) (now (args .words)) (now (args .maps)))) _ _ (c .refused2 .ensures)
     (space-refused (args .backward) (now (args .words)) (now (args .maps)) _ suits (lt-leb (7 * length (now (args .maps)) - 1) (length (now (args .output))) (omega (arith, c .before .if2 .taken))))
 
-slice-aggregate-read-within : tie.Need-slice-aggregate-read-within
-slice-aggregate-read-within c = search needs
-
-slice-aggregate-read-within-2 : tie.Need-slice-aggregate-read-within-2
-slice-aggregate-read-within-2 c = search needs
-
-read-within-requires : tie.Need-read-within-requires
-read-within-requires c κs =
-    let space = c .before .before .before .before in
-    let suits = sym (space .before .before .lengths-suit .ensures) ∙ not-false _ (space .before .if1 .left) in
-    let most = lengths-told _ _ suits .1 in
-    let size = c .before .before .before .if3 .taken in
-    (suits, omega (arith, most, size), omega (arith, most, size), omega (arith, space .if2 .left), space .before .before .before .before .before .before .before .pre)
+read-sized-requires : tie.Need-read-sized-requires
+read-sized-requires c κs =
+    let suits = sym (c .before .before .before .lengths-suit .ensures) ∙ not-false _ (c .before .before .if1 .left) in
+    (suits, omega (arith, c .before .if2 .left), c .before .before .before .before .before .before .before .before .pre)
 
 same-length : tie.Need-same-length
 same-length c = search needs
 
 returns-3 : tie.Need-returns-3
 returns-3 c =
-    let done = c .before .before .before .before .read-within .ensures in
-    with-space _ _ _ _ _ _ (omega (arith, c .before .before .before .before .before .before .before .before .before .if2 .left)) (done .0) (done .1)
-
-slice-aggregate-read-within-3 : tie.Need-slice-aggregate-read-within-3
-slice-aggregate-read-within-3 c = search needs
-
-slice-aggregate-read-within-4 : tie.Need-slice-aggregate-read-within-4
-slice-aggregate-read-within-4 c = search needs
-
-read-within-requires-2 : tie.Need-read-within-requires-2
-read-within-requires-2 c κs =
-    let space = c .before .before .before .before in
-    let suits = sym (space .before .before .lengths-suit .ensures) ∙ not-false _ (space .before .if1 .left) in
-    let most = lengths-told _ _ suits .1 in
-    let size = c .before .before .before .if3 .left in
-    (suits, omega (arith, most, size), omega (arith, most, size), omega (arith, space .if2 .left), space .before .before .before .before .before .before .before .pre)
-
-same-length-2 : tie.Need-same-length-2
-same-length-2 c = search needs
-
-returns-4 : tie.Need-returns-4
-returns-4 c =
-    let done = c .before .before .before .before .read-within2 .ensures in
-    with-space _ _ _ _ _ _ (omega (arith, c .before .before .before .before .before .before .before .before .before .if2 .left)) (done .0) (done .1)
+    let done = c .before .before .read-sized .ensures in
+    with-space _ _ _ _ _ _ (omega (arith, c .before .before .before .before .if2 .left)) (done .0) (done .1)
 
 pub read-by-spec : {M : Type 1} → statement M
 read-by-spec =
@@ -115,13 +84,6 @@ read-by-spec =
     sub-if2
     refused-requires-2
     returns-2
-    slice-aggregate-read-within
-    slice-aggregate-read-within-2
-    read-within-requires
+    read-sized-requires
     same-length
-    returns-3
-    slice-aggregate-read-within-3
-    slice-aggregate-read-within-4
-    read-within-requires-2
-    same-length-2
-    returns-4)
+    returns-3)

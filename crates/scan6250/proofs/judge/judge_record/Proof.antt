@@ -1,6 +1,6 @@
 -- `scan6250::judge::judge_record` meets its contract: each check is the definition's, and what was gathered is as far as it came.
 -- Assumes nothing.
-use mathlib.Core.Path.{_≡_, refl, sym, ap, ap₂, _∙_}
+use mathlib.Core.Path.{refl, sym, ap, ap₂, _∙_}
 use mathlib.Core.Bool.{true}
 use Prim.Native.Nat.{_*_}
 use native.Mathlib.Omega.{arith}
