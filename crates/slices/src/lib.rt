@@ -1,5 +1,5 @@
-// What both densities' readers ask of the slices that are lent: which bits stand in any of the values, where one is
-// above a limit, and where an element of the forward picture stands among those that come last first.
+// What is asked of slices that are lent, at both densities: which bits stand in any of the values, where one is above a
+// limit, and where an element of the forward picture stands among those that come last first.
 ghost use mathlib.Core.Path.{_≡_};
 ghost use Prim.Native.Nat.{_<_};
 ghost use Rattle.slices.specs.Above.{firstAbove};
