@@ -13,7 +13,7 @@ ghost use Rattle.rectangular.specs.Correction.{pointedTracks};
 ghost use Rattle.rectangular.specs.Syndrome.{weighed, secondError, errorsIn, firstAccounting, oneError, twoErrors, errorsOf};
 ghost use Rattle.judge6250.specs.Told.{toldErrors};
 
-// An error in each of two tracks, either of which may be 0, which is none.
+// An error in each of two tracks: `error` in the first, `other` in the second. Either may be 0, which is none.
 pub struct ErrorPair {
     pub first: usize,
     pub error: u8,

@@ -8,12 +8,12 @@ use scan6250::refused;
 ghost use mathlib.Core.Bool.{true};
 ghost use mathlib.Core.List.{_++_};
 ghost use mathlib.Core.Path.{_≡_};
-ghost use Prim.Native.Nat.{_-_, _*_, _≤_};
+ghost use Prim.Native.Nat.{_*_, _≤_};
 ghost use lib.ListN.{length, take, drop};
 ghost use Rattle.answer.specs.Answer.{outputAfter};
 ghost use Rattle.group_code.specs.Word.{readings};
 ghost use Rattle.rectangular.specs.Constants.{bytesPerGroup};
-ghost use Rattle.record6250.specs.Read.{lengthsSuit, readData, answerIf, readAnswer};
+ghost use Rattle.record6250.specs.Read.{lengthsSuit, spaceFor, readData, answerIf, readAnswer};
 ghost use Rattle.scan6250.specs.Told.{toldRead};
 ghost use Rattle.terms.specs.Call as Call;
 ghost use Rattle.terms.specs.Reading.{at6250};
@@ -44,7 +44,7 @@ fn read_within(
     changed: &mut [u16],
     output: &mut [u8],
 ) -> Read
-    requires { ⌜ (lengthsSuit (length (now words)) (length (now maps)) ≡ true) × (bytesPerGroup * length (now maps) ≤ length (now body)) × (length (now maps) ≤ length (now changed)) × (bytesPerGroup * length (now maps) - 1 ≤ length (now output)) × (now table ≡ readings backward) ⌝ }
+    requires { ⌜ (lengthsSuit (length (now words)) (length (now maps)) ≡ true) × (bytesPerGroup * length (now maps) ≤ length (now body)) × (length (now maps) ≤ length (now changed)) × (spaceFor (length (now maps)) ≤ length (now output)) × (now table ≡ readings backward) ⌝ }
     ensures answer { λ r. ⌜ toldRead r ≡ answerIf backward (now (words .entry)) (now (maps .entry)) true ⌝ }
     ensures output { λ r. ⌜ now (output .exit) ≡ outputAfter (toldRead r) (readData backward (now (words .entry)) (now (maps .entry))) (now (output .entry)) ⌝ }
 {
@@ -60,7 +60,7 @@ fn read_within(
 // Reads a record whose lengths and space suit, into arrays of its own. A short record takes small ones, since an array is
 // cleared.
 fn read_sized(words: &[u16], maps: &[u16], backward: bool, table: &[u16], output: &mut [u8]) -> Read
-    requires { ⌜ (lengthsSuit (length (now words)) (length (now maps)) ≡ true) × (bytesPerGroup * length (now maps) - 1 ≤ length (now output)) × (now table ≡ readings backward) ⌝ }
+    requires { ⌜ (lengthsSuit (length (now words)) (length (now maps)) ≡ true) × (spaceFor (length (now maps)) ≤ length (now output)) × (now table ≡ readings backward) ⌝ }
     ensures answer { λ r. ⌜ toldRead r ≡ answerIf backward (now (words .entry)) (now (maps .entry)) true ⌝ }
     ensures output { λ r. ⌜ now (output .exit) ≡ outputAfter (toldRead r) (readData backward (now (words .entry)) (now (maps .entry))) (now (output .entry)) ⌝ }
 {

@@ -19,7 +19,7 @@ use Rattle.register.proofs.Expand.{bits-ext}
 use Rattle.register.proofs.Ones.{bit-or, bit-of-tabulate, tabulated-lt}
 use Rattle.group_code.specs.Word.{illegality}
 use Rattle.group_code.proofs.Words.{illegality-lt}
-use Rattle.rectangular.specs.Constants.{feedback, exponent}
+use Rattle.rectangular.specs.Constants.{feedback, exponent, numbersPerGroup}
 use Rattle.rectangular.specs.Correction.{pointedTracks, corrected, judged, changedMap}
 use Rattle.group6250.specs.Packed.{valuesOf}
 use Rattle.group6250.specs.declared.group.Group.{Group}
@@ -40,34 +40,34 @@ use Rattle.indexed.proofs.Test.{flag-lt}
 -- ---- the lent words have ten bits
 
 module _ (backward : Bool) (words maps : List ℕ) (passes : Passes backward words maps) where
-  at-place : (q r : ℕ) → q < length maps → r < 9 → getD words (9 * q + r) 0 < 1024
+  at-place : (q r : ℕ) → q < length maps → r < 9 → getD words (numbersPerGroup * q + r) 0 < 1024
   unfolding readNumbers groupLent
   at-place q r hq hr =
       let g : ℕ = turnedPlace backward (length maps) q in
-      let none : strayNumbers (numbersAt words (9 * q)) ≡ false =
-      ap (λ (p : ℕ). strayNumbers (numbersAt words (9 * p))) (sym (turned-twice backward (length maps) q hq))
+      let none : strayNumbers (numbersAt words (numbersPerGroup * q)) ≡ false =
+      ap (λ (p : ℕ). strayNumbers (numbersAt words (numbersPerGroup * p))) (sym (turned-twice backward (length maps) q hq))
       ∙ none-stray-lent backward words maps passes g (turned-lt backward (length maps) q hq) in
-      rw (← (getD-numbersAt words (9 * q) r hr)) (number-below (numbersAt words (9 * q)) none r hr)
+      rw (← (getD-numbersAt words (numbersPerGroup * q) r hr)) (number-below (numbersAt words (numbersPerGroup * q)) none r hr)
 
   pub lent-below : (i : ℕ) → getD words i 0 < 1024
   lent-below i = by (decLt i (length words))
     where
       by : Dec (i < length words) → getD words i 0 < 1024
       by (yes h) =
-          let e : 9 * (i / 9) + i % 9 ≡ i = omega arith in
+          let e : numbersPerGroup * (i / numbersPerGroup) + i % numbersPerGroup ≡ i = omega arith in
           subst (λ (k : ℕ). getD words k 0 < 1024) e
-          (at-place (i / 9) (i % 9) (omega (arith, words-long backward words maps passes)) (omega arith))
+          (at-place (i / numbersPerGroup) (i % numbersPerGroup) (omega (arith, words-long backward words maps passes)) (omega arith))
       by (no h) = rw (List·getD-eq-default words 0 {n = i} (omega arith)) (omega arith)
 
 -- ---- the judgement
 
 module _ (backward : Bool) (words maps : List ℕ) (g place : ℕ) (is-place : place ≡ turnedPlace backward (length maps) g) where
   abbrev lent : List ℕ
-  lent = wordsFrom backward (numbersAt words (place * 9))
+  lent = wordsFrom backward (numbersAt words (place * numbersPerGroup))
 
   pub lent-group : lent ≡ readGroup backward words maps g
   unfolding readGroup groupRead groupLent
-  lent-group = ap (λ (p : ℕ). wordsFrom backward (numbersAt words p)) (mul-comm place 9 ∙ ap (λ (q : ℕ). 9 * q) is-place)
+  lent-group = ap (λ (p : ℕ). wordsFrom backward (numbersAt words p)) (mul-comm place numbersPerGroup ∙ ap (λ (q : ℕ). numbersPerGroup * q) is-place)
 
   pub lent-map : getD maps place 0 ≡ readMap backward words maps g
   unfolding readMap mapRead

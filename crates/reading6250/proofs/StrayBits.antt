@@ -14,6 +14,7 @@ use Rattle.slices.specs.Union.{unionOf}
 use Rattle.slices.proofs.Or.{below-union}
 use Rattle.slices.proofs.Turned.{turned-lt}
 use Rattle.indexed.proofs.Below.{first-below-at, first-below-none}
+use Rattle.rectangular.specs.Constants.{numbersPerGroup}
 use Rattle.record6250.specs.Picture.{groupLent, mapRead}
 use Rattle.record6250.specs.Read.{readNumbers, readMap, strayAt, firstStray}
 use Rattle.record6250.specs.Tape.{numbersAt, strayNumbers}
@@ -40,16 +41,16 @@ module _ (words : List ℕ) (at : ℕ) where
 
 -- what a group's test told, at the place where it lies
 pub stray-told : (backward : Bool) (words maps : List ℕ) (g place : ℕ) (told : Bool) → place ≡ turnedPlace backward (length maps) g
-    → told ≡ (strayNumbers (numbersAt words (place * 9)) || ltb 511 (getD maps place 0)) → strayAt backward words maps g ≡ told
+    → told ≡ (strayNumbers (numbersAt words (place * numbersPerGroup)) || ltb 511 (getD maps place 0)) → strayAt backward words maps g ≡ told
 unfolding strayAt readNumbers readMap groupLent mapRead
 stray-told backward words maps g place told e t =
-    ap (λ (p : ℕ). strayNumbers (numbersAt words (9 * p)) || ltb 511 (getD maps p 0)) (sym e)
-    ∙ ap (λ (n : ℕ). strayNumbers (numbersAt words n) || ltb 511 (getD maps place 0)) (mul-comm 9 place)
+    ap (λ (p : ℕ). strayNumbers (numbersAt words (numbersPerGroup * p)) || ltb 511 (getD maps p 0)) (sym e)
+    ∙ ap (λ (n : ℕ). strayNumbers (numbersAt words n) || ltb 511 (getD maps place 0)) (mul-comm numbersPerGroup place)
     ∙ sym t
 
 -- ---- all bits at once
 
-pub none-at-all : (backward : Bool) (words maps : List ℕ) → length words ≡ 9 * length maps → unionOf words < 1024 → unionOf maps < 512
+pub none-at-all : (backward : Bool) (words maps : List ℕ) → length words ≡ numbersPerGroup * length maps → unionOf words < 1024 → unionOf maps < 512
     → firstStray backward words maps ≡ length maps
 unfolding firstStray strayAt readNumbers readMap groupLent mapRead
 none-at-all backward words maps lengths few few-maps =
@@ -57,5 +58,5 @@ none-at-all backward words maps lengths few few-maps =
     (λ g h. let place : ℕ = turnedPlace backward (length maps) g in
     let within : place < length maps = turned-lt backward (length maps) g h in
     ap₂ _||_
-    (no-stray-number words (9 * place) (λ j b. le-ltb 1023 (getD words (9 * place + j) 0) (omega (arith, below-union words 1024 few (9 * place + j) (omega arith)))))
+    (no-stray-number words (numbersPerGroup * place) (λ j b. le-ltb 1023 (getD words (numbersPerGroup * place + j) 0) (omega (arith, below-union words 1024 few (numbersPerGroup * place + j) (omega arith)))))
     (le-ltb 511 (getD maps place 0) (omega (arith, below-union maps 512 few-maps place within))))

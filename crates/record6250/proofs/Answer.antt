@@ -13,7 +13,7 @@ use Rattle.indexed.proofs.Below.{first-below-le}
 use Rattle.answer.specs.Answer.{Answer, delivered, refusedFor}
 use Rattle.answer.specs.declared.Reason.the-variants.{Length, Space, StrayBits}
 use Rattle.answer.proofs.Passed.{test-held, test-failed}
-use Rattle.rectangular.specs.Constants.{mostData}
+use Rattle.rectangular.specs.Constants.{mostData, numbersPerGroup}
 use Rattle.record6250.specs.Fits.{Passes}
 use Rattle.record6250.specs.Read.{lengthsSuit, strayAt, firstStray, judgedAnswer, answerIf, readAnswer}
 use Rattle.record6250.specs.Record.{groupsFor}
@@ -82,14 +82,14 @@ module _ (backward : Bool) (words maps : List ℕ) where
 
 -- what a writer delivers has passed, and tells the number of groups
 pub written-passed : (size space : ℕ) (figures : List ℕ) → writeAnswer size space ≡ delivered figures
-    → (figures ≡ groupsFor size ∷ []) × (9 * groupsFor size ≤ space)
+    → (figures ≡ groupsFor size ∷ []) × (numbersPerGroup * groupsFor size ≤ space)
 unfolding writeAnswer
 written-passed size space figures e =
-    let enough = test-held (leb (9 * groupsFor size) space) (delivered (groupsFor size ∷ [])) 2 0 figures (test-held (leb size mostData) _ 1 0 figures e .1) in
+    let enough = test-held (leb (numbersPerGroup * groupsFor size) space) (delivered (groupsFor size ∷ [])) 2 0 figures (test-held (leb size mostData) _ 1 0 figures e .1) in
     let told : delivered (groupsFor size ∷ []) ≡ delivered figures = enough .1 in
     (cc, leb-true _ _ (enough .0))
 
 -- and data within the limits are delivered, if there is space
-pub write-delivers : (size space : ℕ) → size ≤ mostData → 9 * groupsFor size ≤ space → writeAnswer size space ≡ delivered (groupsFor size ∷ [])
+pub write-delivers : (size space : ℕ) → size ≤ mostData → numbersPerGroup * groupsFor size ≤ space → writeAnswer size space ≡ delivered (groupsFor size ∷ [])
 unfolding writeAnswer
-write-delivers size space within enough = simp (le-leb size mostData within, le-leb (9 * groupsFor size) space enough)
+write-delivers size space within enough = simp (le-leb size mostData within, le-leb (numbersPerGroup * groupsFor size) space enough)

@@ -9,6 +9,7 @@ use borrow.Author.Tests.{ltb-true, ltb-false, leb-true, eqb-true}
 use lib.Dec.{eqb, leb, ltb}
 use lib.ListN.{length, getD, drop, length-drop}
 use lib.Seq.{length-take-le}
+use Rattle.rectangular.specs.Constants.{numbersPerGroup}
 use Rattle.record6250.specs.Fits.{Passes}
 use Rattle.record6250.specs.Picture.{groupRead}
 use Rattle.record6250.specs.Read.{readNumbers, readGroup, readMap, lengthsSuit, lastByte, unpadded, strayAt, firstStray}
@@ -36,17 +37,17 @@ left-false : (a b : Bool) → (a || b) ≡ false → a ≡ false
 left-false true b e = e
 left-false false b e = refl
 
-pub lengths-told : (n m : ℕ) → lengthsSuit n m ≡ true → (0 < m) × (m ≤ 586) × (n ≡ 9 * m)
+pub lengths-told : (n m : ℕ) → lengthsSuit n m ≡ true → (0 < m) × (m ≤ 586) × (n ≡ numbersPerGroup * m)
 unfolding lengthsSuit
 lengths-told n m e =
-    let both = left-true (ltb 0 m && leb m 586) (eqb n (9 * m)) e in (
+    let both = left-true (ltb 0 m && leb m 586) (eqb n (numbersPerGroup * m)) e in (
       ltb-true 0 m (left-true (ltb 0 m) (leb m 586) both),
       leb-true m 586 (right-true (ltb 0 m) (leb m 586) both),
-      eqb-true n (9 * m) (right-true (ltb 0 m && leb m 586) (eqb n (9 * m)) e),
+      eqb-true n (numbersPerGroup * m) (right-true (ltb 0 m && leb m 586) (eqb n (numbersPerGroup * m)) e),
     )
 
 module _ (backward : Bool) (words maps : List ℕ) (passes : Passes backward words maps) where
-  pub words-long : length words ≡ 9 * length maps
+  pub words-long : length words ≡ numbersPerGroup * length maps
   words-long = lengths-told (length words) (length maps) (passes .lengths) .2
 
   none-stray-at : (g : ℕ) → g < length maps → strayAt backward words maps g ≡ false

@@ -19,7 +19,7 @@ use Rattle.indexed.proofs.Differ.{differences-none, equal-of-no-differences}
 use Rattle.indexed.proofs.Total.{total-none, none-of-total}
 use Rattle.register.specs.Bit.{bit}
 use Rattle.group_code.specs.Word.{illegality}
-use Rattle.rectangular.specs.Constants.{feedback}
+use Rattle.rectangular.specs.Constants.{feedback, tracks, numbersPerGroup}
 use Rattle.rectangular.specs.Correction.{pointedTracks, Allowed}
 use Rattle.rectangular.specs.Group.{track}
 use Rattle.rectangular.proofs.Equations.{Below}
@@ -77,8 +77,8 @@ module _ (bytes : List ℕ) (is-data : IsData bytes) where
   many : length maps ≡ groupsFor (length bytes)
   many = length-replicate (groupsFor (length bytes)) 0
 
-  long : length words ≡ 9 * length maps
-  long = length-record bytes ∙ ap (λ (n : ℕ). 9 * n) (sym many)
+  long : length words ≡ numbersPerGroup * length maps
+  long = length-record bytes ∙ ap (λ (n : ℕ). numbersPerGroup * n) (sym many)
 
   info-below : (g : ℕ) → Below 8 (groupBytes g (body bytes))
   info-below = groupBytes-bounded 256 (body bytes) (body-below bytes (is-data .are-bytes))
@@ -113,7 +113,7 @@ module _ (bytes : List ℕ) (is-data : IsData bytes) where
     lengths =
         ap₂ _&&_
         (ap₂ _&&_ (lt-ltb 0 (length maps) (omega (arith, many))) (le-leb (length maps) 586 (omega (arith, many, is-data .within))))
-        (eq-eqb (length words) (9 * length maps) long);
+        (eq-eqb (length words) (numbersPerGroup * length maps) long);
     no-stray =
         first-below-none (length maps) _
         (λ g h. ap₂ (λ (l : List ℕ) (m : ℕ). strayNumbers l || ltb 511 m) (written-lent bytes (length maps) g (omega (arith, many))) (unpointed g h)
@@ -160,4 +160,4 @@ module _ (words maps bytes : List ℕ) (passes : Passes false words maps) (fits 
   unchanged =
       sym (lent-joined words (length maps) (words-long false words maps passes))
       ∙ blocks-same (length maps) _ _ same-numbers
-      ∙ lent-joined (writtenRecord bytes) (length maps) (length-record bytes ∙ ap (λ (n : ℕ). 9 * n) (fits .as-many))
+      ∙ lent-joined (writtenRecord bytes) (length maps) (length-record bytes ∙ ap (λ (n : ℕ). numbersPerGroup * n) (fits .as-many))

@@ -20,6 +20,10 @@ use Rattle.record6250.specs.Tape.{strayNumbers}
 unfoldable pub lengthsSuit : ℕ → ℕ → Bool
 lengthsSuit words maps = (ltb 0 maps && leb maps mostGroups) && eqb words (numbersPerGroup * maps)
 
+-- the space that reading so many groups needs: for all bytes but the last, which counts the padding
+abbrev pub spaceFor : ℕ → ℕ
+spaceFor groups = bytesPerGroup * groups - 1
+
 -- the padding rule, of the corrected bytes: the last is not above 6, and as many bytes before it as it says are zero
 unfoldable pub lastByte : List ℕ → ℕ
 lastByte bytes = getD bytes (length bytes - 1) 0
@@ -90,4 +94,4 @@ module _ (backward : Bool) (words maps : List ℕ) where
       (refusedFor Length 0)
 
   unfoldable pub readAnswer : ℕ → Answer
-  readAnswer space = answerIf (leb (bytesPerGroup * length maps - 1) space)
+  readAnswer space = answerIf (leb (spaceFor (length maps)) space)

@@ -70,6 +70,10 @@ module _ (n : ℕ) (characters : List ℕ) where
   unfoldable pub judgedData : List ℕ
   judgedData = tabulate n (λ k. candidate (firstBelow tracks holds) k % 256)
 
+-- the space that reading so many characters needs: for all but the two check characters
+abbrev pub spaceFor : ℕ → ℕ
+spaceFor count = count - checks
+
 -- 3 to 2,050 characters
 unfoldable pub lengthSuits : ℕ → Bool
 lengthSuits count = leb (leastData + checks) count && leb count (mostData + checks)
@@ -92,4 +96,4 @@ answerIf backward characters enough =
 
 -- a reader's output has space for the data characters
 unfoldable pub readAnswer : Bool → List ℕ → ℕ → Answer
-readAnswer backward characters space = answerIf backward characters (leb (length characters - checks) space)
+readAnswer backward characters space = answerIf backward characters (leb (spaceFor (length characters)) space)

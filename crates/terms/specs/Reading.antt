@@ -4,11 +4,10 @@
 use mathlib.Core.Bool.{Bool, true, false, not}
 use mathlib.Core.List.{List, [], _∷_}
 use mathlib.Core.Path.{_≡_}
-use Prim.Native.Nat.{ℕ, _-_, _*_, _/_, _≤_}
+use Prim.Native.Nat.{ℕ, _/_, _≤_}
 use lib.ListN.{length, getD, replicate}
 use Rattle.answer.specs.Answer.{Answer}
-use Rattle.rectangular.specs.Constants.{numbersPerGroup, bytesPerGroup}
-use Rattle.cyclic.specs.Constants.{checks}
+use Rattle.rectangular.specs.Constants.{numbersPerGroup}
 use Rattle.record6250.specs.Fits as six
 use Rattle.record6250.specs.Picture as sixPicture
 use Rattle.record6250.specs.Read as sixRead
@@ -68,8 +67,8 @@ undamaged bpi800 true characters = turned (at800 false characters)
 
 -- the output has the space that a reader needs
 unfoldable pub Enough : Reading → ℕ → Type 0
-Enough (at6250 backward words maps) space = bytesPerGroup * length maps - 1 ≤ space
-Enough (at800 backward characters) space = length characters - checks ≤ space
+Enough (at6250 backward words maps) space = sixRead.spaceFor (length maps) ≤ space
+Enough (at800 backward characters) space = eightRead.spaceFor (length characters) ≤ space
 
 -- lengths, space and stray bits have passed: the first three rows of document 01's table
 unfoldable pub Passes : Reading → ℕ → Type 0

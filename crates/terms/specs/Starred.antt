@@ -22,7 +22,7 @@ pub data Asked : Type 0 where
 unfoldable pub lent : List ℕ
 lent = 101 ∷ 102 ∷ 103 ∷ 104 ∷ 105 ∷ 106 ∷ 107 ∷ 108 ∷ 109 ∷ 110 ∷ []
 
--- the answer, and the output afterwards
+-- the answer, and the output afterwards; what is no call answers nothing, for which a delivery without figures stands
 unfoldable pub answered : Asked → Answer
 answered (body6250 bytes) = delivered []
 answered (unaltered800 bytes) = delivered []
