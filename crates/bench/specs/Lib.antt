@@ -1,3 +1,3 @@
 pub mod Arguments
-pub mod Text
+pub mod Reading
 pub mod Picture

@@ -6,7 +6,6 @@ mod at800;
 mod picture;
 mod print;
 mod reading;
-mod text;
 
 use arguments::Request;
 use streams::Ended;

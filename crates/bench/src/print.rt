@@ -1,13 +1,13 @@
 // What is printed: answers, numbers and data for standard output, faults for standard error. Each function puts its
 // text behind what the page holds, and tells how much it holds then.
 use crate::reading::Parsed;
-use crate::text::Fault;
 use answer::Refusal;
 use streams::PAGE;
 use streams::Text;
 use streams::decimal;
 use streams::hexadecimal;
 use streams::put;
+use text::Fault;
 ghost use Prim.Native.Nat.{_<_};
 
 pub(crate) fn space(page: &mut [u8; PAGE], held: usize) -> usize {

@@ -1,16 +1,16 @@
 // A reading out of its text: at 6250 a line for each group, its words and a pointer map that may be left
 // out; at 800 characters, any number to a line. Empty lines are passed over. What the space does not hold
 // is read and dropped: the space is larger than the largest record, so the library refuses it by its length.
-use crate::text::Fault;
-use crate::text::line_at;
 use rectangular::Code6250;
+use text::Fault;
+use text::line_at;
 ghost use mathlib.Core.Path.{_≡_};
 ghost use Prim.Native.Nat.{_+_, _*_, _≤_, min};
 ghost use mathlib.Core.Bool.{cond};
 ghost use lib.ListN.{length, take, getD, set};
 ghost use lib.Seq.{sets};
 ghost use Rattle.rectangular.specs.Constants.{numbersPerGroup};
-ghost use Rattle.bench.specs.Text.{rowLength, groupFault, isStored, isWhole};
+ghost use Rattle.bench.specs.Reading.{rowLength, groupFault, isStored, isWhole};
 
 // The numbers of a group, and its map.
 const ROW: usize = Code6250::NUMBERS + 1;

@@ -2,7 +2,7 @@
 -- Assumes nothing.
 use borrow.Author.Tests.{eq-eqb, ne-eqb}
 use borrow.Author.Needs.{needs}
-use Rattle.bench.specs.Text.{groupFault}
+use Rattle.bench.specs.Reading.{groupFault}
 use Rattle.bench.proofs.reading.group_fault.Statement.{statement}
 use Rattle.bench.proofs.reading.group_fault.Tie as tie
 

@@ -1,11 +1,11 @@
--- `bench::text::entered` meets its contract: each arm is the case of its class.
+-- `text::number::entered` meets its contract: each arm is the case of its class.
 -- Assumes nothing.
 use mathlib.Core.Path.{sym}
 use borrow.Author.Needs.{needs}
 use borrow.Author.Tests.{eq-eqb, ne-eqb}
-use Rattle.bench.specs.Text.{enteredByte, enteredClass}
-use Rattle.bench.proofs.text.entered.Statement.{statement}
-use Rattle.bench.proofs.text.entered.Tie as tie
+use Rattle.text.specs.Number.{enteredByte, enteredClass}
+use Rattle.text.proofs.number.entered.Statement.{statement}
+use Rattle.text.proofs.number.entered.Tie as tie
 
 returns : tie.Need-returns
 unfolding enteredByte

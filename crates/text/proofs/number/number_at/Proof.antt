@@ -1,4 +1,4 @@
--- `bench::text::number_at` meets its contract. The loop's invariant: what is still to be scanned, from the value so far,
+-- `text::number::number_at` meets its contract. The loop's invariant: what is still to be scanned, from the value so far,
 -- is what was to be scanned at the start.
 -- Assumes nothing.
 use Prim.Native.Nat.{ℕ, _≤_, _+_, _-_}
@@ -6,10 +6,10 @@ use mathlib.Core.Path.{_≡_, refl, sym, ap, _∙_}
 use native.Mathlib.Omega.{arith}
 use borrow.Author.Needs.{needs}
 use lib.ListN.{length, drop}
-use Rattle.bench.specs.Text.{scanned}
-use Rattle.bench.proofs.Numbers.{entered-le, scanned-stop, scanned-step, scanned-none}
-use Rattle.bench.proofs.text.number_at.Statement.{statement}
-use Rattle.bench.proofs.text.number_at.Tie as tie
+use Rattle.text.specs.Number.{scanned}
+use Rattle.text.proofs.Numbers.{entered-le, scanned-stop, scanned-step, scanned-none}
+use Rattle.text.proofs.number.number_at.Statement.{statement}
+use Rattle.text.proofs.number.number_at.Tie as tie
 
 abbrev Inv-loop : tie.InvT-loop
 Inv-loop text at value₀ end₀ value end = (end ≤ length text) × (value ≤ 65537) × (scanned value end (drop end text) ≡ scanned 0 at (drop at text))

@@ -1,13 +1,13 @@
--- `bench::text::line_at` is safe and ends: every turn passes a byte at least.
+-- `text::line::line_at` is safe and ends: every turn passes a byte at least.
 -- Assumes nothing.
 use Prim.Native.Nat.{_≤_, _-_}
 use mathlib.Core.Path.{_≡_, sym, _∙_}
 use native.Mathlib.Omega.{arith}
 use borrow.Author.Needs.{needs}
 use lib.ListN.{length}
-use Rattle.bench.proofs.Numbers.{number-ahead, number-within}
-use Rattle.bench.proofs.text.line_at.Statement.{statement}
-use Rattle.bench.proofs.text.line_at.Tie as tie
+use Rattle.text.proofs.Numbers.{number-ahead, number-within}
+use Rattle.text.proofs.line.line_at.Statement.{statement}
+use Rattle.text.proofs.line.line_at.Tie as tie
 
 abbrev Inv-loop : tie.InvT-loop
 Inv-loop text at row₀ count₀ end₀ row count end =

@@ -1,10 +1,10 @@
--- `bench::text::put` meets its contract: a place behind the end stores nothing.
+-- `text::line::put` meets its contract: a place behind the end stores nothing.
 -- Assumes nothing.
 use mathlib.Core.Path.{sym}
 use borrow.Author.Needs.{needs}
 use lib.Seq.{set-out}
-use Rattle.bench.proofs.text.put.Statement.{statement}
-use Rattle.bench.proofs.text.put.Tie as tie
+use Rattle.text.proofs.line.put.Statement.{statement}
+use Rattle.text.proofs.line.put.Tie as tie
 
 mul-values : tie.Need-mul-values
 mul-values c = search needs

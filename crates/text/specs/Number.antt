@@ -1,15 +1,12 @@
 -- Numbers out of text: the class of a byte, a digit entered into a number, and the number that begins at a place.
 -- Assumes nothing.
 use Prim.Native.Nat.{ℕ, _+_, _-_, _*_, min}
-use mathlib.Core.Bool.{Bool, true, false, cond, not, _&&_}
+use mathlib.Core.Bool.{Bool, true, false, cond}
 use mathlib.Core.List.{List, [], _∷_}
 use lib.Dec.{eqb, ltb}
-use Rattle.rectangular.specs.Constants.{numbersPerGroup}
-use Rattle.bench.specs.declared.text.Class.{Class}
-use Rattle.bench.specs.declared.text.Class.the-variants.{Digit, Blank, Newline, Other}
-use Rattle.bench.specs.declared.text.Number.{Number}
-use Rattle.bench.specs.declared.text.Fault.{Fault}
-use Rattle.bench.specs.declared.text.Fault.the-variants.{Nothing, NotANumber, TooLarge, NotAGroup}
+use Rattle.text.specs.declared.number.Class.{Class}
+use Rattle.text.specs.declared.number.Class.the-variants.{Digit, Blank, Newline, Other}
+use Rattle.text.specs.declared.number.Number.{Number}
 
 -- a newline; a space, a tab or a carriage return; a digit, with its value; or any other byte
 unfoldable pub classOf : ℕ → Class
@@ -50,24 +47,3 @@ unfoldable pub scanned : ℕ → ℕ → List ℕ → Number
 scanned value at [] = record { value = value; end = at }
 scanned value at (byte ∷ bytes) =
     cond (separating (classOf byte)) (record { value = value; end = at }) (scanned (enteredByte value byte) (at + 1) bytes)
-
--- a line of a 6250 reading has the numbers of a group and a map, or has no map, or is empty
-abbrev pub rowLength : ℕ
-rowLength = numbersPerGroup + 1
-
-unfoldable pub groupFault : Fault → ℕ → Fault
-groupFault Nothing numbers = cond (eqb numbers 0) Nothing (cond (eqb numbers numbersPerGroup) Nothing (cond (eqb numbers rowLength) Nothing NotAGroup))
-groupFault NotANumber numbers = NotANumber
-groupFault TooLarge numbers = TooLarge
-groupFault NotAGroup numbers = NotAGroup
-
--- a text is read whole if nothing is wrong with it
-abbrev pub isWhole : Fault → Bool
-isWhole Nothing = true
-isWhole NotANumber = false
-isWhole TooLarge = false
-isWhole NotAGroup = false
-
--- a line gives a group that is stored if it has numbers and there is space
-abbrev pub isStored : ℕ → ℕ → ℕ → Bool
-isStored numbers stored space = not (eqb numbers 0) && not (eqb stored space)

@@ -10,10 +10,10 @@ use native.Mathlib.Omega.{arith}
 use lib.Dec.{eqb}
 use lib.ListN.{length, getD, drop, length-drop}
 use lib.Seq.{drop-cons, drop-length}
-use Rattle.bench.specs.declared.text.Class.{Class}
-use Rattle.bench.specs.declared.text.Class.the-variants.{Digit, Blank, Newline, Other}
-use Rattle.bench.specs.declared.text.Number.{Number}
-use Rattle.bench.specs.Text.{classOf, separating, enteredClass, enteredByte, scanned, notANumber}
+use Rattle.text.specs.declared.number.Class.{Class}
+use Rattle.text.specs.declared.number.Class.the-variants.{Digit, Blank, Newline, Other}
+use Rattle.text.specs.declared.number.Number.{Number}
+use Rattle.text.specs.Number.{classOf, separating, enteredClass, enteredByte, scanned, notANumber}
 
 -- an entered number is below 65,538
 class-le : (v : ℕ) (k : Class) → enteredClass v k ≤ notANumber

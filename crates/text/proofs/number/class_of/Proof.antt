@@ -1,9 +1,9 @@
--- `bench::text::class_of` meets its contract: each return is the case that its tests lead to.
+-- `text::number::class_of` meets its contract: each return is the case that its tests lead to.
 -- Assumes nothing.
 use borrow.Author.Tests.{eq-eqb, ne-eqb, lt-ltb, le-ltb}
-use Rattle.bench.specs.Text.{classOf}
-use Rattle.bench.proofs.text.class_of.Statement.{statement}
-use Rattle.bench.proofs.text.class_of.Tie as tie
+use Rattle.text.specs.Number.{classOf}
+use Rattle.text.proofs.number.class_of.Statement.{statement}
+use Rattle.text.proofs.number.class_of.Tie as tie
 
 returns : tie.Need-returns
 unfolding classOf

@@ -1,10 +1,10 @@
--- `bench::text::separates` meets its contract: each arm is the case of its class.
+-- `text::number::separates` meets its contract: each arm is the case of its class.
 -- Assumes nothing.
 use mathlib.Core.Path.{sym, ap, _∙_}
 use borrow.Author.Needs.{needs}
-use Rattle.bench.specs.Text.{separating}
-use Rattle.bench.proofs.text.separates.Statement.{statement}
-use Rattle.bench.proofs.text.separates.Tie as tie
+use Rattle.text.specs.Number.{separating}
+use Rattle.text.proofs.number.separates.Statement.{statement}
+use Rattle.text.proofs.number.separates.Tie as tie
 
 class-of-requires : tie.Need-class-of-requires
 class-of-requires c κs = search needs

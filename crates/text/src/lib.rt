@@ -1,0 +1,7 @@
+// Numbers out of text, as programs are handed them: decimal, parted by blanks, a line at a time.
+mod line;
+mod number;
+
+pub use line::Fault;
+pub use line::Row;
+pub use line::line_at;
