@@ -15,12 +15,23 @@ ghost use Rattle.group_code.specs.Word.{readings};
 ghost use Rattle.rectangular.specs.Constants.{bytesPerGroup};
 ghost use Rattle.record6250.specs.Read.{lengthsSuit, spaceFor, readData, answerIf, readAnswer};
 ghost use Rattle.scan6250.specs.Told.{toldRead};
+ghost use Rattle.reader6250.specs.Told.{lengthTold};
 ghost use Rattle.terms.specs.Call as Call;
 ghost use Rattle.terms.specs.Reading.{at6250};
 ghost use Rattle.terms.specs.Terms.{Terms};
 
 // A record of so few groups is short.
 const SHORT: usize = 64;
+
+// The length of the data that a reading delivers; a refusal delivers none.
+fn data_length(read: Read) -> usize
+    ensures { λ r. ⌜ r ≡ lengthTold (toldRead read) ⌝ }
+{
+    match read {
+        Read::Delivered(figures) => figures.length,
+        Read::Refused(_) => 0,
+    }
+}
 
 // Copies the first bytes to the front of the output.
 fn deliver(bytes: &[u8], count: usize, output: &mut [u8])
@@ -48,13 +59,9 @@ fn read_within(
     ensures answer { λ r. ⌜ toldRead r ≡ answerIf backward (now (words .entry)) (now (maps .entry)) true ⌝ }
     ensures output { λ r. ⌜ now (output .exit) ≡ outputAfter (toldRead r) (readData backward (now (words .entry)) (now (maps .entry))) (now (output .entry)) ⌝ }
 {
-    match judge_record(words, maps, backward, table, body, changed) {
-        Read::Delivered(figures) => {
-            deliver(body, figures.length, output);
-            Read::Delivered(figures)
-        }
-        Read::Refused(refusal) => Read::Refused(refusal),
-    }
+    let read = judge_record(words, maps, backward, table, body, changed);
+    deliver(body, data_length(read), output);
+    read
 }
 
 // Reads a record whose lengths and space suit, into arrays of its own. A short record takes small ones, since an array is
