@@ -8,8 +8,8 @@ mod print;
 mod reading;
 
 use arguments::Request;
+use page::PAGE;
 use streams::Ended;
-use streams::PAGE;
 use streams::Text;
 
 // What is made of the input: data, or the text of a reading.

@@ -2,9 +2,9 @@
 // at most 64 columns, in the forward order of the record.
 use crate::print::newline;
 use crate::print::number;
+use page::PAGE;
+use page::put;
 use rectangular::Code6250;
-use streams::PAGE;
-use streams::put;
 ghost use mathlib.Core.List.{_++_};
 ghost use mathlib.Core.Path.{_≡_};
 ghost use Prim.Native.Nat.{_+_, _-_, _*_, _<_, _≤_, min};

@@ -2,11 +2,11 @@
 // text behind what the page holds, and tells how much it holds then.
 use crate::reading::Parsed;
 use answer::Refusal;
-use streams::PAGE;
+use page::PAGE;
+use page::decimal;
+use page::hexadecimal;
+use page::put;
 use streams::Text;
-use streams::decimal;
-use streams::hexadecimal;
-use streams::put;
 use text::Fault;
 ghost use Prim.Native.Nat.{_<_};
 

@@ -9,9 +9,9 @@ use lib.ListN.{getD}
 use Rattle.indexed.specs.List.{blocks}
 use Rattle.indexed.proofs.Blocks.{blocks-same}
 use Rattle.rectangular.specs.Constants.{numbersPerGroup}
-use Rattle.streams.specs.Ascii.{ascii}
-use Rattle.streams.specs.Page.{Printed}
-use Rattle.streams.proofs.Printed.{printed-none, printed-both}
+use Rattle.page.specs.Ascii.{ascii}
+use Rattle.page.specs.Page.{Printed}
+use Rattle.page.proofs.Printed.{printed-none, printed-both}
 use Rattle.listing.specs.Listing.{wordText, wordsText, groupText, recordText}
 
 blocks-suc : (n : ℕ) (f : ℕ → List ℕ) → blocks (n + 1) f ≡ blocks n f ++ f n

@@ -11,9 +11,9 @@ use Rattle.indexed.specs.List.{blocks}
 use Rattle.rectangular.specs.Constants.{numbersPerGroup, mostGroups}
 use Rattle.record6250.specs.Record.{writtenRecord}
 use Rattle.record6250.specs.Written.{writeAnswer}
-use Rattle.streams.specs.Ascii.{ascii}
+use Rattle.page.specs.Ascii.{ascii}
 use Rattle.streams.specs.Message.{unreadText}
-use Rattle.streams.specs.Page.{decimalText, Printed}
+use Rattle.page.specs.Page.{decimalText, Printed}
 use Rattle.streams.specs.declared.Text.{Text}
 use Rattle.streams.specs.declared.Text.the-variants.{Output, Message}
 

@@ -2,17 +2,17 @@
 // words of the 6250 record that is written from them, a line for each group; or the refusal.
 use answer::Refusal;
 use answer::Written;
+use page::PAGE;
+use page::decimal;
+use page::put;
 use rectangular::Code6250;
 use streams::Ended;
-use streams::PAGE;
 use streams::Text;
-use streams::decimal;
-use streams::put;
 ghost use Prim.Native.Nat.{_+_, _*_, _≤_};
 ghost use lib.ListN.{length};
 ghost use Rattle.answer.specs.Answer.{numberOf};
 ghost use Rattle.rectangular.specs.Constants.{numbersPerGroup};
-ghost use Rattle.streams.specs.Page.{Printed};
+ghost use Rattle.page.specs.Page.{Printed};
 ghost use Rattle.streams.specs.Ended.{Prints};
 ghost use Rattle.listing.specs.Listing.{wordText, groupText, recordText, refusalText, listingText, Listed};
 

@@ -8,7 +8,7 @@ use lib.Dec.{eqb}
 use Rattle.io.specs.Counts.{Counts}
 use Rattle.streams.specs.declared.Ended.{Ended}
 use Rattle.streams.specs.declared.Ended.the-variants.{After, Failed}
-use Rattle.streams.specs.Page.{Printed}
+use Rattle.page.specs.Page.{Printed}
 use Rattle.streams.specs.Message.{unwrittenText}
 use Rattle.streams.specs.declared.Text.{Text}
 use Rattle.streams.specs.declared.Text.the-variants.{Output, Message}

@@ -4,8 +4,8 @@ use Prim.Native.Nat.{ℕ}
 use mathlib.Core.Bool.{cond}
 use mathlib.Core.List.{List, [], _++_}
 use lib.Dec.{eqb}
-use Rattle.streams.specs.Ascii.{ascii}
-use Rattle.streams.specs.Page.{decimalText}
+use Rattle.page.specs.Ascii.{ascii}
+use Rattle.page.specs.Page.{decimalText}
 use Rattle.streams.specs.declared.Ended.{Ended}
 use Rattle.streams.specs.declared.Ended.the-variants.{After, Failed}
 

@@ -3,15 +3,10 @@
 // on a page and hands it over when it is whole.
 mod message;
 mod moved;
-mod page;
 mod sink;
 mod source;
 
 pub use message::unread;
-pub use page::PAGE;
-pub use page::decimal;
-pub use page::hexadecimal;
-pub use page::put;
 pub use sink::finish;
 pub use source::read;
 

@@ -2,10 +2,10 @@
 use crate::Ended;
 use crate::Text;
 use crate::moved::INTERRUPTED;
-use crate::page::PAGE;
-use crate::page::decimal;
-use crate::page::put;
-ghost use Rattle.streams.specs.Page.{Printed};
+use page::PAGE;
+use page::decimal;
+use page::put;
+ghost use Rattle.page.specs.Page.{Printed};
 ghost use Rattle.streams.specs.Message.{meaningText, errorText, cutText, unreadText, unwrittenText};
 ghost use Rattle.streams.specs.Ended.{Tells};
 

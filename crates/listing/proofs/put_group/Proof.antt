@@ -4,7 +4,7 @@ use Prim.Native.Nat.{_-_, _≤_}
 use mathlib.Core.Path.{_≡_}
 use native.Mathlib.Omega.{arith}
 use Rattle.rectangular.specs.Constants.{numbersPerGroup}
-use Rattle.streams.specs.Page.{Printed}
+use Rattle.page.specs.Page.{Printed}
 use Rattle.listing.specs.Listing.{wordsText}
 use Rattle.listing.proofs.Lines.{words-none, words-more, words-all}
 use borrow.Author.Needs.{needs}

@@ -3,7 +3,7 @@
 use Prim.Native.Nat.{ℕ, _-_, _≤_}
 use mathlib.Core.Path.{_≡_, subst}
 use native.Mathlib.Omega.{arith}
-use Rattle.streams.specs.Page.{Printed}
+use Rattle.page.specs.Page.{Printed}
 use Rattle.listing.specs.Listing.{recordText}
 use Rattle.listing.proofs.Lines.{groups-none, groups-more}
 use borrow.Author.Needs.{needs}

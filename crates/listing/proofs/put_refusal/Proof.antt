@@ -1,6 +1,6 @@
 -- `listing::put_refusal` meets its contract: one text behind another.
 -- Assumes nothing.
-use Rattle.streams.proofs.Printed.{printed-both}
+use Rattle.page.proofs.Printed.{printed-both}
 use borrow.Author.Needs.{needs}
 use Rattle.listing.proofs.put_refusal.Statement.{statement}
 use Rattle.listing.proofs.put_refusal.Tie as tie

@@ -1,7 +1,7 @@
 -- `listing::put_word` meets its contract: the first word has no space in front of it.
 -- Assumes nothing.
 use borrow.Author.Tests.{eq-eqb, ne-eqb}
-use Rattle.streams.proofs.Printed.{printed-both}
+use Rattle.page.proofs.Printed.{printed-both}
 use borrow.Author.Needs.{needs}
 use Rattle.listing.proofs.put_word.Statement.{statement}
 use Rattle.listing.proofs.put_word.Tie as tie

@@ -2,7 +2,7 @@
 -- Assumes nothing.
 use Rattle.streams.specs.Message.{meaningText}
 use borrow.Author.Tests.{ne-eqb}
-use Rattle.streams.proofs.Printed.{printed-none}
+use Rattle.page.proofs.Printed.{printed-none}
 use borrow.Author.Needs.{needs}
 use Rattle.streams.proofs.message.meaning.Statement.{statement}
 use Rattle.streams.proofs.message.meaning.Tie as tie

@@ -1,6 +1,6 @@
 -- `streams::message::unread` meets its contract: one text behind another.
 -- Assumes nothing.
-use Rattle.streams.proofs.Printed.{printed-both}
+use Rattle.page.proofs.Printed.{printed-both}
 use borrow.Author.Needs.{needs}
 use Rattle.streams.proofs.message.unread.Statement.{statement}
 use Rattle.streams.proofs.message.unread.Tie as tie

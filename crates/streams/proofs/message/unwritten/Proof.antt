@@ -1,6 +1,6 @@
 -- `streams::message::unwritten` meets its contract: what is told depends on how it ended.
 -- Assumes nothing.
-use Rattle.streams.proofs.Printed.{printed-both}
+use Rattle.page.proofs.Printed.{printed-both}
 use borrow.Author.Needs.{needs}
 use Rattle.streams.proofs.message.unwritten.Statement.{statement}
 use Rattle.streams.proofs.message.unwritten.Tie as tie

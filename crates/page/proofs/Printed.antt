@@ -14,7 +14,7 @@ use Rattle.io.specs.Digits.{digits, Fewest}
 use Rattle.indexed.specs.List.{firstBelow}
 use Rattle.indexed.proofs.Below.{first-below-at, first-below-before}
 use Rattle.indexed.proofs.Stores.{sets-append}
-use Rattle.streams.specs.Page.{pageSize, heldAfter, Printed, places, numeral}
+use Rattle.page.specs.Page.{pageSize, heldAfter, Printed, places, numeral}
 
 module _ (text page page' : List ℕ) (held : ℕ) where
   pub printed : held + length text ≤ pageSize → page' ≡ sets page held text → Printed text page held page' (held + length text)

@@ -1,5 +1,5 @@
 // A page: text that a program makes before it hands it over.
-ghost use Rattle.streams.specs.Page.{Printed, Kept, decimalText, hexadecimalText};
+ghost use Rattle.page.specs.Page.{Printed, Kept, decimalText, hexadecimalText};
 
 // How many bytes a page holds.
 pub const PAGE: usize = 65536;

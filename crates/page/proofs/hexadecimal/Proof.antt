@@ -1,12 +1,12 @@
--- `streams::page::hexadecimal` meets its contract: the digits are those of `io::hex`.
+-- `page::hexadecimal` meets its contract: the digits are those of `io::hex`.
 -- Assumes nothing.
 use Prim.Native.Nat.{_^_, _<_}
 use mathlib.Core.Path.{sym, _∙_}
 use native.Mathlib.Omega.{arith}
 use borrow.Author.Needs.{needs}
-use Rattle.streams.proofs.Printed.{digits-numeral}
-use Rattle.streams.proofs.page.hexadecimal.Statement.{statement}
-use Rattle.streams.proofs.page.hexadecimal.Tie as tie
+use Rattle.page.proofs.Printed.{digits-numeral}
+use Rattle.page.proofs.hexadecimal.Statement.{statement}
+use Rattle.page.proofs.hexadecimal.Tie as tie
 
 hex-requires : tie.Need-hex-requires
 hex-requires c κs = search needs

@@ -1,12 +1,12 @@
--- `streams::page::decimal` meets its contract: the digits are those of `io::decimal`.
+-- `page::decimal` meets its contract: the digits are those of `io::decimal`.
 -- Assumes nothing.
 use Prim.Native.Nat.{_^_, _<_}
 use mathlib.Core.Path.{sym, _∙_}
 use native.Mathlib.Omega.{arith}
 use borrow.Author.Needs.{needs}
-use Rattle.streams.proofs.Printed.{digits-numeral}
-use Rattle.streams.proofs.page.decimal.Statement.{statement}
-use Rattle.streams.proofs.page.decimal.Tie as tie
+use Rattle.page.proofs.Printed.{digits-numeral}
+use Rattle.page.proofs.decimal.Statement.{statement}
+use Rattle.page.proofs.decimal.Tie as tie
 
 decimal-requires : tie.Need-decimal-requires
 decimal-requires c κs = search needs

@@ -1,4 +1,4 @@
--- `streams::page::put` meets its contract. The loop's invariant: the first k bytes are stored.
+-- `page::put` meets its contract. The loop's invariant: the first k bytes are stored.
 -- Assumes nothing.
 use Prim.Native.Nat.{_+_, _-_, _≤_}
 use mathlib.Core.Path.{_≡_, refl, ap, _∙_}
@@ -7,9 +7,9 @@ use borrow.Author.Needs.{needs}
 use lib.ListN.{length, take}
 use lib.Seq.{sets, take-all}
 use Rattle.indexed.proofs.Stores.{sets-taken}
-use Rattle.streams.proofs.Printed.{printed, not-printed}
-use Rattle.streams.proofs.page.put.Statement.{statement}
-use Rattle.streams.proofs.page.put.Tie as tie
+use Rattle.page.proofs.Printed.{printed, not-printed}
+use Rattle.page.proofs.put.Statement.{statement}
+use Rattle.page.proofs.put.Tie as tie
 
 abbrev Inv-loop : tie.InvT-loop
 Inv-loop page₀ held bytes k₀ page k = (k ≤ length bytes) × (held + length bytes ≤ 65536) × (page ≡ sets page₀ held (take k bytes))
