@@ -7,12 +7,12 @@ use native.Mathlib.Omega.{arith}
 use lib.ListN.{length, drop, take, length-drop}
 use lib.Seq.{length-take-le}
 use Rattle.io.specs.Counts.{Counts}
-use Rattle.streams.specs.Moved.{Within, endedBy}
+use Rattle.transfer.specs.Moved.{Within, endedBy}
 use Rattle.streams.specs.Ended.{Filled, Taken}
-use Rattle.streams.specs.declared.Ended.{Ended}
-use Rattle.streams.specs.declared.Ended.the-variants.{After}
-use Rattle.streams.specs.declared.moved.Moved.{Moved}
-use Rattle.streams.specs.declared.moved.Moved.the-variants.{Bytes, Nothing, Interrupted, Failed}
+use Rattle.transfer.specs.declared.Ended.{Ended}
+use Rattle.transfer.specs.declared.Ended.the-variants.{After}
+use Rattle.transfer.specs.declared.Moved.{Moved}
+use Rattle.transfer.specs.declared.Moved.the-variants.{Bytes, Nothing, Interrupted, Failed}
 
 rest-length : (space : List ℕ) (count : ℕ) → length (take (length space - count) (drop count space)) ≡ length space - count
 rest-length space count = length-take-le _ _ (omega (arith, length-drop count space))

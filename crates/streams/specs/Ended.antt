@@ -6,8 +6,8 @@ use mathlib.Core.Bool.{Bool, true, false}
 use mathlib.Core.List.{List}
 use lib.Dec.{eqb}
 use Rattle.io.specs.Counts.{Counts}
-use Rattle.streams.specs.declared.Ended.{Ended}
-use Rattle.streams.specs.declared.Ended.the-variants.{After, Failed}
+use Rattle.transfer.specs.declared.Ended.{Ended}
+use Rattle.transfer.specs.declared.Ended.the-variants.{After, Failed}
 use Rattle.page.specs.Page.{Printed}
 use Rattle.streams.specs.Message.{unwrittenText}
 use Rattle.streams.specs.declared.Text.{Text}

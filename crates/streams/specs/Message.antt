@@ -6,8 +6,8 @@ use mathlib.Core.List.{List, [], _++_}
 use lib.Dec.{eqb}
 use Rattle.page.specs.Ascii.{ascii}
 use Rattle.page.specs.Page.{decimalText}
-use Rattle.streams.specs.declared.Ended.{Ended}
-use Rattle.streams.specs.declared.Ended.the-variants.{After, Failed}
+use Rattle.transfer.specs.declared.Ended.{Ended}
+use Rattle.transfer.specs.declared.Ended.the-variants.{After, Failed}
 
 -- what the usual errors mean: EINTR, EIO, EBADF, EAGAIN, EISDIR, EFBIG, ENOSPC, EPIPE
 unfoldable pub meaningText : ℕ → List ℕ

@@ -2,19 +2,16 @@
 // input, what cannot be written is told on standard error, and output goes out in one piece. A program makes its text
 // on a page and hands it over when it is whole.
 mod message;
-mod moved;
 mod sink;
 mod source;
 
 pub use message::unread;
 pub use sink::finish;
 pub use source::read;
+pub use transfer::Ended;
 
-// How reading or writing ended: after so many bytes, or in an error, with its number.
-pub enum Ended {
-    After(usize),
-    Failed(u32),
-}
+// How often in a row a call that signals interrupt is made: a program has to end (D24).
+pub(crate) const TRIES: u32 = 1000000;
 
 // What a program has on its page, so many bytes: its output, or a message for standard error.
 pub enum Text {

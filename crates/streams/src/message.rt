@@ -1,10 +1,10 @@
 // What is told of a read or a write that failed: the number of the error, and for the usual ones what it means.
-use crate::Ended;
 use crate::Text;
-use crate::moved::INTERRUPTED;
 use page::PAGE;
 use page::decimal;
 use page::put;
+use transfer::Ended;
+use transfer::INTERRUPTED;
 ghost use Rattle.page.specs.Page.{Printed};
 ghost use Rattle.streams.specs.Message.{meaningText, errorText, cutText, unreadText, unwrittenText};
 ghost use Rattle.streams.specs.Ended.{Tells};

@@ -1,20 +1,20 @@
 // Standard output and standard error: what a program has on its page is handed over.
-use crate::Ended;
+use crate::TRIES;
 use crate::Text;
 use crate::message::unwritten;
-use crate::moved::Moved;
-use crate::moved::TRIES;
-use crate::moved::came;
-use crate::moved::end;
-use crate::moved::is_interrupted;
-use crate::moved::last_error;
 use libc::SEEK_CUR;
 use libc::STDERR_FILENO;
 use libc::STDOUT_FILENO;
 use page::PAGE;
+use transfer::Ended;
+use transfer::Moved;
+use transfer::came;
+use transfer::end;
+use transfer::error_number;
+use transfer::is_interrupted;
 ghost use mathlib.Core.Path.{_≡_};
 ghost use lib.ListN.{length};
-ghost use Rattle.streams.specs.Moved.{Within};
+ghost use Rattle.transfer.specs.Moved.{Within};
 ghost use Rattle.streams.specs.Ended.{Taken, isWhole, Finished};
 
 // One write, made again where a signal came first.
@@ -30,6 +30,11 @@ fn write_some(fd: i32, bytes: &[u8]) -> Moved
         tries -= 1;
     }
     Moved::Interrupted
+}
+
+// The number of the error that the last call of C's ended in.
+fn last_error() -> u32 {
+    error_number(os::errno())
 }
 
 // Whether a file took only some of the bytes: it is full or at its limit. Another write would fail, and past a limit the

@@ -1,13 +1,13 @@
 // Standard input, read to its end.
-use crate::Ended;
-use crate::moved::Moved;
-use crate::moved::TRIES;
-use crate::moved::came;
-use crate::moved::end;
-use crate::moved::is_interrupted;
+use crate::TRIES;
 use libc::STDIN_FILENO;
+use transfer::Ended;
+use transfer::Moved;
+use transfer::came;
+use transfer::end;
+use transfer::is_interrupted;
 ghost use lib.ListN.{length};
-ghost use Rattle.streams.specs.Moved.{Within};
+ghost use Rattle.transfer.specs.Moved.{Within};
 ghost use Rattle.streams.specs.Ended.{Filled};
 
 // One read into the space, made again where a signal came first.

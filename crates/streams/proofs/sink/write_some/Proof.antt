@@ -2,7 +2,7 @@
 -- Assumes nothing.
 use borrow.Author.Needs.{needs}
 use mir.Syntax.{w64}
-use Rattle.streams.proofs.Outcomes.{moved-within}
+use Rattle.transfer.proofs.Outcomes.{moved-within}
 use Rattle.streams.proofs.sink.write_some.Statement.{statement}
 use Rattle.streams.proofs.sink.write_some.Tie as tie
 

@@ -4,7 +4,7 @@ use mathlib.Core.Path.{_≡_}
 use borrow.Author.Needs.{needs}
 use lib.ListN.{length}
 use mir.Syntax.{w64}
-use Rattle.streams.proofs.Outcomes.{moved-within}
+use Rattle.transfer.proofs.Outcomes.{moved-within}
 use Rattle.streams.proofs.source.read_some.Statement.{statement}
 use Rattle.streams.proofs.source.read_some.Tie as tie
 

@@ -1,10 +1,10 @@
--- `streams::moved::error_number` meets its contract.
+-- `transfer::error_number` meets its contract.
 -- Assumes nothing.
 use native.Mathlib.Omega.{arith}
 use mir.Syntax.{w32}
-use Rattle.streams.proofs.Outcomes.{cast-above, number-cast, number-none}
-use Rattle.streams.proofs.moved.error_number.Statement.{statement}
-use Rattle.streams.proofs.moved.error_number.Tie as tie
+use Rattle.transfer.proofs.Outcomes.{cast-above, number-cast, number-none}
+use Rattle.transfer.proofs.error_number.Statement.{statement}
+use Rattle.transfer.proofs.error_number.Tie as tie
 
 cast-result : tie.Need-cast-result
 cast-result c = cast-above w32 (c .before .args .error) (c .before .fits .error) (omega arith) (c .if1 .taken)

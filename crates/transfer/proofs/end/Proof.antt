@@ -1,8 +1,8 @@
--- `streams::moved::end` meets its contract.
+-- `transfer::end` meets its contract.
 -- Assumes nothing.
 use borrow.Author.Needs.{needs}
-use Rattle.streams.proofs.moved.end.Statement.{statement}
-use Rattle.streams.proofs.moved.end.Tie as tie
+use Rattle.transfer.proofs.end.Statement.{statement}
+use Rattle.transfer.proofs.end.Tie as tie
 
 enum-told : tie.Need-enum-told
 enum-told c = search needs

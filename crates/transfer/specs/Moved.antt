@@ -5,10 +5,10 @@ use mathlib.Core.Path.{_≡_}
 use mathlib.Core.Bool.{Bool, true, false, cond}
 use lib.Dec.{eqb}
 use lib.IntN.{ℤ, pos, negsuc}
-use Rattle.streams.specs.declared.moved.Moved.{Moved}
-use Rattle.streams.specs.declared.moved.Moved.the-variants.{Bytes, Nothing, Interrupted, Failed}
-use Rattle.streams.specs.declared.Ended.{Ended}
-use Rattle.streams.specs.declared.Ended.the-variants.{After, Failed as Broken}
+use Rattle.transfer.specs.declared.Moved.{Moved}
+use Rattle.transfer.specs.declared.Moved.the-variants.{Bytes, Nothing, Interrupted, Failed}
+use Rattle.transfer.specs.declared.Ended.{Ended}
+use Rattle.transfer.specs.declared.Ended.the-variants.{After, Failed as Broken}
 
 -- errors have numbers above 0
 abbrev pub errorNumber : ℤ → ℕ

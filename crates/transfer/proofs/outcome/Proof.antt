@@ -1,14 +1,14 @@
--- `streams::moved::outcome` meets its contract.
+-- `transfer::outcome` meets its contract.
 -- Assumes nothing.
 use mathlib.Core.Path.{_∙_, ap}
 use native.Mathlib.Omega.{arith}
 use borrow.Author.Needs.{needs}
 use mir.Syntax.{w64}
 use mir.Facts.{toZ-ofZ}
-use Rattle.streams.specs.Moved.{errorNumber, failedBy}
-use Rattle.streams.proofs.Outcomes.{cast-above, some-moved, call-failed, none-moved}
-use Rattle.streams.proofs.moved.outcome.Statement.{statement}
-use Rattle.streams.proofs.moved.outcome.Tie as tie
+use Rattle.transfer.specs.Moved.{errorNumber, failedBy}
+use Rattle.transfer.proofs.Outcomes.{cast-above, some-moved, call-failed, none-moved}
+use Rattle.transfer.proofs.outcome.Statement.{statement}
+use Rattle.transfer.proofs.outcome.Tie as tie
 
 cast-t4 : tie.Need-cast-t4
 cast-t4 c = cast-above w64 (c .before .args .answer) (c .before .fits .answer) (omega arith) (c .if1 .taken)

@@ -13,9 +13,9 @@ use mir.Syntax.{Width}
 use mir.Val.{SFits, Fits, bits, hbits, toZ, ofZ}
 use mir.Facts.{toZ-ofZ}
 use Rattle.libc.specs.Io.{Moved}
-use Rattle.streams.specs.Moved.{errorNumber, movedBy, failedBy, Came, Within}
-use Rattle.streams.specs.declared.moved.Moved as Declared
-use Rattle.streams.specs.declared.moved.Moved.the-variants.{Bytes, Nothing, Interrupted, Failed}
+use Rattle.transfer.specs.Moved.{errorNumber, movedBy, failedBy, Came, Within}
+use Rattle.transfer.specs.declared.Moved as Declared
+use Rattle.transfer.specs.declared.Moved.the-variants.{Bytes, Nothing, Interrupted, Failed}
 
 positive : (w : Width) (z : ℤ) → SFits w z → 2 ^ hbits w < 2 ^ bits w → ltZ (pos 0) z ≡ true → T (nonNeg z) × Fits w (natAbs z)
 positive w (pos n) h wide t = (tt, record { fits = omega (arith, h .sfits) })

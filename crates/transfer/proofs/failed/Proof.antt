@@ -1,8 +1,8 @@
--- `streams::moved::failed` meets its contract.
+-- `transfer::failed` meets its contract.
 -- Assumes nothing.
 use borrow.Author.Tests.{eq-eqb, ne-eqb}
-use Rattle.streams.proofs.moved.failed.Statement.{statement}
-use Rattle.streams.proofs.moved.failed.Tie as tie
+use Rattle.transfer.proofs.failed.Statement.{statement}
+use Rattle.transfer.proofs.failed.Tie as tie
 
 returns : tie.Need-returns
 returns c = simp (eq-eqb _ _ (c .if1 .taken))

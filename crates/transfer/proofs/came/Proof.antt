@@ -1,4 +1,4 @@
--- `streams::moved::came` meets its contract, by what errno holds.
+-- `transfer::came` meets its contract, by what errno holds.
 -- Assumes nothing.
 use mathlib.Core.Path.{ap, _∙_}
 use borrow.Author.Needs.{needs}
@@ -6,9 +6,9 @@ use lib.IntN.{ℤ}
 use mir.Syntax.{w32}
 use mir.Val.{toZ, ofZ}
 use mir.Facts.{toZ-ofZ}
-use Rattle.streams.specs.Moved.{movedBy}
-use Rattle.streams.proofs.moved.came.Statement.{statement}
-use Rattle.streams.proofs.moved.came.Tie as tie
+use Rattle.transfer.specs.Moved.{movedBy}
+use Rattle.transfer.proofs.came.Statement.{statement}
+use Rattle.transfer.proofs.came.Tie as tie
 
 errno-requires : tie.Need-errno-requires
 errno-requires c κs = search needs
