@@ -55,5 +55,5 @@ int main(void)
     back[8] = code[8];
     read_and_print("one damaged, with no pointer", back, none);
     read_and_print("one damaged, another pointed", back, another);
-    return 0;
+    return fflush(stdout) == 0 ? 0 : 1;
 }

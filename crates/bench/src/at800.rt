@@ -4,6 +4,7 @@ use crate::print;
 use crate::reading;
 use answer::Refusal;
 use answer::Written;
+use cyclic::Code800;
 use marks::marks::View;
 use marks::marks::refused_column;
 use marks::marks::run_marks;
@@ -22,12 +23,14 @@ ghost use Rattle.record800.specs.Written.{writeAnswer};
 
 // Characters are printed so many to a line.
 const LINE: usize = 9;
+// One character more than a record has, so that longer readings are seen and refused.
+const CHARACTERS: usize = Code800::MOST_LENGTH + 1;
 // The runs of the longest reading.
 const COLUMNS: usize = 65;
 
 // Writes the record of data.
 pub(crate) fn write(page: &mut [u8; PAGE], bytes: &[u8]) -> Text {
-    let mut characters = [0u16; 2050];
+    let mut characters = [0u16; Code800::MOST_LENGTH];
     match writer800::write(bytes, &mut characters) {
         Written::Delivered(stored) => Text::Output(print::words(
             page,
@@ -45,8 +48,7 @@ pub(crate) fn read(page: &mut [u8; PAGE], text: &[u8], backward: bool) -> Text {
     if text.len() > 65535 {
         return print::too_long(page);
     }
-    // One character more than a record has, so that longer readings are seen and refused.
-    let mut characters = [0u16; 2051];
+    let mut characters = [0u16; CHARACTERS];
     let parsed = reading::characters(text, &mut characters);
     let fault = parsed.fault;
     if !reading::is_whole(fault) {
@@ -78,7 +80,7 @@ fn draw(
     page: &mut [u8; PAGE],
     held: usize,
     characters: &[u16],
-    right: &[u16; 2051],
+    right: &[u16; CHARACTERS],
     view: View,
 ) -> usize
     requires { ⌜ length (now characters) ≤ 2051 ⌝ }
@@ -106,7 +108,7 @@ fn show_delivered(
     end = print::figure(page, end, figures.changes);
     end = print::newline(page, end);
     end = print::data(page, end, output, figures.length);
-    let mut right = [0u16; 2051];
+    let mut right = [0u16; CHARACTERS];
     write_again(output, figures.length, &mut right);
     let place = columns_of(characters.len());
     end = draw(
@@ -139,7 +141,7 @@ fn show_refused(
     if number < 3 {
         return end;
     }
-    let right = [0u16; 2051];
+    let right = [0u16; CHARACTERS];
     let place = refused_column(number, refusal.place / 32, columns_of(characters.len()));
     end = draw(
         page,
