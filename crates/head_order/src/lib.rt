@@ -1,8 +1,7 @@
 // Head order: numbers between the physical tracks of the head and the algebraic tracks of the code
-// (document 000, note 11; document 01, "Head order").
+// (document 000, note 11; document 01, "Head order"). What is refused, and the calls; the crate arrangement moves.
 pub mod to_algebraic;
 pub mod to_physical;
-mod track;
 mod ways;
 
 use answer::Reason;

@@ -1,8 +1,8 @@
 // From head order to code order.
 use crate::MovedMap;
 use crate::MovedWords;
-use crate::track;
 use crate::ways;
+use arrangement::track;
 ghost use mathlib.Core.Path.{_≡_};
 ghost use mathlib.Core.List.{[]};
 ghost use lib.ListN.{length};
@@ -19,7 +19,7 @@ pub fn words(source: &[u16], target: &mut [u16]) -> MovedWords
     ensures output { λ r. ⌜ now (target .exit) ≡ outputAfter (toldWords r) (toAlgebraic (now (source .entry))) (now (target .entry)) ⌝ }
     ensures terms { λ r. ⌜ Terms (Call.wordsToAlgebraic (now (source .entry))) (toldWords r) (now (target .entry)) (now (target .exit)) ⌝ }
 {
-    let way = ways::inverse(&track::order());
+    let way = arrangement::inverse(&track::order());
     ways::words(&way, source, target)
 }
 
@@ -29,6 +29,6 @@ pub fn map(map: u16) -> MovedMap
     ensures answer { λ r. ⌜ toldMap r ≡ mapAnswer mapToAlgebraic map ⌝ }
     ensures terms { λ r. ⌜ Terms (Call.mapToAlgebraic map) (toldMap r) [] [] ⌝ }
 {
-    let way = ways::inverse(&track::order());
+    let way = arrangement::inverse(&track::order());
     ways::map(&way, map)
 }

@@ -1,8 +1,8 @@
 // From code order to head order.
 use crate::MovedMap;
 use crate::MovedWords;
-use crate::track;
 use crate::ways;
+use arrangement::track;
 ghost use mathlib.Core.Path.{_≡_};
 ghost use mathlib.Core.List.{[]};
 ghost use lib.ListN.{length};

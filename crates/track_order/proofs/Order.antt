@@ -2,14 +2,12 @@
 -- Assumes nothing.
 use mathlib.Core.Path.{_≡_, refl, sym, ap, subst, _∙_}
 use mathlib.Core.List.{List}
-use Prim.Native.Nat.{ℕ, _+_, _<_}
-use native.Mathlib.Nat.{not-suc-le-zero}
-use native.Mathlib.Decide.{ℕ-discrete}
+use Prim.Native.Nat.{ℕ, _<_}
 use native.Mathlib.Omega.{arith}
 use borrow.Author.Tests.{eq-eqb, ne-eqb, eqb-true}
 use lib.Dec.{eqb, ltb, eqb→eq, ltb→lt}
-use lib.ListN.{length, getD, set, length-set}
-use lib.Seq.{ext-getD, getD-set-same, getD-set-other}
+use lib.ListN.{length, getD}
+use lib.Seq.{ext-getD}
 use Rattle.indexed.specs.List.{firstWhere}
 use Rattle.indexed.proofs.Test.{tested}
 use Rattle.indexed.proofs.First.{first-at, first-passes}
@@ -35,30 +33,22 @@ pub getD-arranged : (places elements : List ℕ) (k : ℕ) → k < 9 → getD (a
 unfolding arranged
 getD-arranged places elements k h = getD-tabulate 9 _ k 0 h
 
-same-nine : (l m : List ℕ) → length l ≡ 9 → length m ≡ 9 → ((k : ℕ) → k < 9 → getD l k 0 ≡ getD m k 0) → l ≡ m
+pub same-nine : (l m : List ℕ) → length l ≡ 9 → length m ≡ 9 → ((k : ℕ) → k < 9 → getD l k 0 ≡ getD m k 0) → l ≡ m
 same-nine l m nine nine-too same = ext-getD 0 l m (nine ∙ sym nine-too) (λ k h. same k (subst (λ (n : ℕ). k < n) nine h))
-
--- the inverse as a loop finds it, which stores each index at its place: k of them are stored
-pub record Found (places : List ℕ) (k : ℕ) (found : List ℕ) : Type 0 where
-  pub nine-found : length found ≡ 9
-  pub stands : (a : ℕ) → indexIn places a < k → getD found a 0 ≡ indexIn places a
-
-pub found-none : (places found : List ℕ) → length found ≡ 9 → Found places 0 found
-found-none places found nine = record { nine-found = nine; stands = λ a less. absurd (not-suc-le-zero less) }
 
 module _ (places : List ℕ) (p : Permutation places) where
   -- where an algebraic track stands, it stands
-  at-index : (a : ℕ) → indexIn places a < 9 → getD places (indexIn places a) 0 ≡ a
+  pub at-index : (a : ℕ) → indexIn places a < 9 → getD places (indexIn places a) 0 ≡ a
   unfolding indexIn
   at-index a h = eqb-true _ _ (first-passes _ places (subst (λ (n : ℕ). indexIn places a < n) (sym (p .nine)) h))
 
   -- ---- the inverse
 
-  length-inverse : length (inverse places) ≡ 9
+  pub length-inverse : length (inverse places) ≡ 9
   unfolding inverse
   length-inverse = length-tabulate 9 _
 
-  getD-inverse : (a : ℕ) → a < 9 → getD (inverse places) a 0 ≡ indexIn places a
+  pub getD-inverse : (a : ℕ) → a < 9 → getD (inverse places) a 0 ≡ indexIn places a
   unfolding inverse
   getD-inverse a h = getD-tabulate 9 _ a 0 h
 
@@ -87,24 +77,6 @@ module _ (places : List ℕ) (p : Permutation places) where
         ∙ at-index k (p .onto k h);
     onto = λ a h. rw (index-inverse a h) (p .below a h);
   }
-
-  pub found-more : (k : ℕ) (found : List ℕ) → k < 9 → Found places k found → Found places (k + 1) (set found (getD places k 0) k)
-  found-more k found h f = record {
-    nine-found = length-set found (getD places k 0) k ∙ f .nine-found;
-    stands = λ a less. by a less (ℕ-discrete a (getD places k 0));
-  }
-    where
-      by : (a : ℕ) → indexIn places a < k + 1 → Dec (a ≡ getD places k 0) → getD (set found (getD places k 0) k) a 0 ≡ indexIn places a
-      by a less (yes e) =
-          ap (λ (i : ℕ). getD (set found (getD places k 0) k) i 0) e
-          ∙ getD-set-same found (getD places k 0) k 0 (rw (f .nine-found) (p .below k h))
-          ∙ sym (ap (indexIn places) e ∙ p .once k h)
-      by a less (no ne) =
-          let before : indexIn places a ≡ k → ⊥ = λ e. ne (sym (at-index a (rw e h)) ∙ ap (λ (i : ℕ). getD places i 0) e) in
-          getD-set-other found (getD places k 0) a k 0 ne ∙ f .stands a (omega arith)
-
-  pub found-all : (found : List ℕ) → Found places 9 found → found ≡ inverse places
-  found-all found f = same-nine found (inverse places) (f .nine-found) length-inverse (λ a h. f .stands a (p .onto a h) ∙ sym (getD-inverse a h))
 
   -- ---- out and back
 

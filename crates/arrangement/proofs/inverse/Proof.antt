@@ -1,12 +1,12 @@
--- `head_order::ways::inverse` meets its contract. The loop's invariant: the first `k` indices stand at their places.
+-- `arrangement::inverse` meets its contract. The loop's invariant: the first `k` indices stand at their places.
 -- Assumes nothing.
 use mathlib.Core.Path.{_≡_, refl}
 use Prim.Native.Nat.{_≤_, _-_}
 use native.Mathlib.Omega.{arith}
 use borrow.Author.Needs.{needs}
-use Rattle.track_order.proofs.Order.{Found, found-none, found-more, found-all}
-use Rattle.head_order.proofs.ways.inverse.Statement.{statement}
-use Rattle.head_order.proofs.ways.inverse.Tie as tie
+use Rattle.arrangement.proofs.Found.{Found, found-none, found-more, found-all}
+use Rattle.arrangement.proofs.inverse.Statement.{statement}
+use Rattle.arrangement.proofs.inverse.Tie as tie
 
 abbrev Inv-loop : tie.InvT-loop
 Inv-loop way back₀ k₀ back k = (k ≤ 9) × Found way k back

@@ -1,4 +1,4 @@
--- `head_order::ways::arrange` meets its contract. The loop's invariant: the first `k` words are arranged, and behind them the
+-- `arrangement::arrange` meets its contract. The loop's invariant: the first `k` words are arranged, and behind them the
 -- target is as it was.
 -- Assumes nothing.
 use mathlib.Core.Path.{_≡_, sym, ap, ap₂, _∙_}
@@ -11,8 +11,8 @@ use lib.ListN.{length, set, length-set}
 use Rattle.indexed.proofs.Front.{front, front-more, front-all}
 use Rattle.track_order.specs.Order.{arranged}
 use Rattle.track_order.proofs.Order.{length-arranged, getD-arranged}
-use Rattle.head_order.proofs.ways.arrange.Statement.{statement}
-use Rattle.head_order.proofs.ways.arrange.Tie as tie
+use Rattle.arrangement.proofs.arrange.Statement.{statement}
+use Rattle.arrangement.proofs.arrange.Tie as tie
 
 abbrev Inv-loop : tie.InvT-loop
 Inv-loop way source target₀ k₀ target k =

@@ -1,4 +1,4 @@
--- `head_order::ways::arrange_bits` meets its contract. The loop's invariant: the bits from `k` on are gathered.
+-- `arrangement::arrange_bits` meets its contract. The loop's invariant: the bits from `k` on are gathered.
 -- Assumes nothing.
 use mathlib.Core.Path.{_≡_, sym, ap, subst, _∙_}
 use mathlib.Core.List.{List}
@@ -12,8 +12,8 @@ use Rattle.register.proofs.Bit.{getD-bitsOf, ofBits-lt, ofBits-drop, ofBits-dro
 use Rattle.track_order.specs.Order.{arranged, arrangedMap}
 use Rattle.track_order.proofs.Order.{length-arranged, getD-arranged}
 use Rattle.track_order.proofs.Restored.{arranged-digits}
-use Rattle.head_order.proofs.ways.arrange_bits.Statement.{statement}
-use Rattle.head_order.proofs.ways.arrange_bits.Tie as tie
+use Rattle.arrangement.proofs.arrange_bits.Statement.{statement}
+use Rattle.arrangement.proofs.arrange_bits.Tie as tie
 
 module _ (way : List ℕ) (map : ℕ) where
   -- the nine bits as the way takes them, and the number that those from k on make

@@ -1,4 +1,4 @@
--- `head_order::track::order` meets its contract. The loop's invariant: the first `k` places are the order's.
+-- `arrangement::track::order` meets its contract. The loop's invariant: the first `k` places are the order's.
 -- Assumes nothing.
 use mathlib.Core.Path.{_≡_, refl, ap, ap₂, _∙_}
 use mathlib.Core.List.{List}
@@ -9,8 +9,8 @@ use lib.ListN.{length, getD, set, length-set, replicate}
 use Rattle.indexed.proofs.Front.{front, front-more}
 use Rattle.track_order.specs.Order.{order}
 use Rattle.track_order.proofs.Order.{order-permutation}
-use Rattle.head_order.proofs.track.order.Statement.{statement}
-use Rattle.head_order.proofs.track.order.Tie as tie
+use Rattle.arrangement.proofs.track.order.Statement.{statement}
+use Rattle.arrangement.proofs.track.order.Tie as tie
 
 abbrev Inv-loop : tie.InvT-loop
 Inv-loop way₀ k₀ way k = (k ≤ 9) × (length way ≡ 9) × (way ≡ front k order way₀)

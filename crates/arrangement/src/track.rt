@@ -1,6 +1,6 @@
 // The two numberings of the tracks (document 000, note 11). Each keeps its number to itself, so that neither can stand
 // in for the other: a physical track is made from its place, and the order table is the only way across.
-use crate::ways::Way;
+use crate::Way;
 use rectangular::Code6250;
 ghost use mathlib.Core.Path.{_≡_};
 ghost use Prim.Native.Nat.{_+_, _-_, _≤_, _<_};

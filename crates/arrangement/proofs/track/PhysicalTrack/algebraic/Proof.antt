@@ -1,10 +1,10 @@
--- `head_order::track::PhysicalTrack::algebraic` meets its contract: the constant is the definition's order.
+-- `arrangement::track::PhysicalTrack::algebraic` meets its contract: the constant is the definition's order.
 -- Assumes nothing.
 use mathlib.Core.Path.{refl}
 use Rattle.track_order.specs.Order.{order}
 use borrow.Author.Needs.{needs}
-use Rattle.head_order.proofs.track.PhysicalTrack.algebraic.Statement.{statement}
-use Rattle.head_order.proofs.track.PhysicalTrack.algebraic.Tie as tie
+use Rattle.arrangement.proofs.track.PhysicalTrack.algebraic.Statement.{statement}
+use Rattle.arrangement.proofs.track.PhysicalTrack.algebraic.Tie as tie
 
 sub-place : tie.Need-sub-place
 sub-place c = search needs
