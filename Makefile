@@ -1,7 +1,8 @@
 # make run        build the proved library and show it at work on an example
 # make test       the gate: every proof, every must-fail edit, every test
 # make benchmark  how fast the calls are, beside Rust written for speed and beside memcpy
-.PHONY: run test benchmark
+# make stack      how much stack each call takes
+.PHONY: run test benchmark stack
 
 ARCHIVE := target/staticlib/librindthok.a
 PROGRAMS := target/bin/listing target/bin/bench
@@ -29,3 +30,10 @@ $(PROGRAMS) &: $(SOURCES)
 # How fast the calls are, beside an implementation in Rust and beside memcpy; draws docs/benchmark.svg.
 benchmark: $(ARCHIVE)
 	cargo run --release --offline --quiet --manifest-path benchmark/Cargo.toml -- docs/benchmark.svg
+
+# How many bytes of stack each call takes, below the caller's; the C library is bound before.
+stack: target/stack
+	./target/stack
+
+target/stack: benchmark/stack.c include/rindthok.h $(ARCHIVE)
+	$(CC) -O1 -Wall -Wextra -Wno-cast-function-type -Werror -Iinclude -o $@ $< $(ARCHIVE) -z now

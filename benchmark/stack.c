@@ -1,0 +1,146 @@
+/* How much stack each call takes, on x86-64: from the call instruction to the lowest byte that is touched, on a stack that
+ * was painted. It is painted in two colours by turns, so that a byte that is written in one of them shows in the other. */
+#define _GNU_SOURCE
+#include "rindthok.h"
+#include <stdio.h>
+#include <string.h>
+#include <ucontext.h>
+
+enum { STACK = 1 << 20, GROUPS = 586, WORDS = 9 * GROUPS, BYTES = 4101, BYTES800 = 2048, CHARACTERS = 2050 };
+
+static unsigned char stack[STACK] __attribute__((aligned(64)));
+static uint8_t bytes[BYTES], output[7 * GROUPS];
+static uint16_t words[WORDS], characters[CHARACTERS], turned[WORDS], nine[9];
+static rindthok_algebraic_map maps[GROUPS];
+static size_t byte_count, group_count, character_count, told[3], place;
+
+/* What is called: the call that is measured, or what stands in for it and notes where the stack stands. */
+static void (*volatile called)(void);
+unsigned char *at_call;
+extern void probe(void);
+__asm__(".globl probe\nprobe:\n\tlea 8(%rsp), %rax\n\tmov %rax, at_call(%rip)\n\tret\n");
+
+#define CALL(function) ((__typeof__(&function))called)
+
+static void write6250(void) { CALL(rindthok_write6250)(bytes, byte_count, words, WORDS, told, &place); }
+static void write800(void) { CALL(rindthok_write800)(bytes, byte_count, characters, CHARACTERS, told, &place); }
+static void read6250(void) { CALL(rindthok_read6250_forward)(turned, 9 * group_count, maps, group_count, output, sizeof output, told, told + 1, &place); }
+static void read800(void) { CALL(rindthok_read800_forward)(turned, character_count, output, sizeof output, told, told + 1, told + 2, &place); }
+static void move_words(void) { CALL(rindthok_words_to_physical)(words, 9, nine, 9, &place); }
+static void move_map(void) { CALL(rindthok_map_to_algebraic)(5, maps, &place); }
+
+/* Makes the call on the painted stack, and tells how many bytes below `at_call` it touched. */
+static long touched(void (*call)(void), void (*function)(void), int colour) {
+    ucontext_t here, there;
+    long lowest = 0;
+    memset(stack, colour, STACK);
+    called = function;
+    getcontext(&there);
+    there.uc_stack.ss_sp = stack;
+    there.uc_stack.ss_size = STACK;
+    there.uc_link = &here;
+    makecontext(&there, call, 0);
+    swapcontext(&here, &there);
+    while (stack[lowest] == colour)
+        lowest++;
+    return at_call - (stack + lowest);
+}
+
+static long most;
+
+/* The second of two runs: in the first the linker may have bound the C library's functions. */
+static void measure(void (*call)(void), void (*function)(void)) {
+    int colour;
+    for (colour = 0; colour < 4; colour++) {
+        long bytes_touched;
+        touched(call, probe, 0xa5);
+        bytes_touched = touched(call, function, colour % 2 ? 0xa5 : 0x5a);
+        if (colour > 1 && bytes_touched > most)
+            most = bytes_touched;
+    }
+}
+
+static void tell(const char *name) {
+    printf("%-18s %ld\n", name, most);
+    most = 0;
+}
+
+static uint16_t reversed(uint16_t word) {
+    uint16_t result = 0;
+    int k;
+    for (k = 0; k < 10; k++)
+        result = (uint16_t)(result << 1 | ((word >> k) & 1));
+    return result;
+}
+
+/* A record of so many bytes at 6250, read without error, with a wrong track, with two pointed, and refused. */
+static void read_at_6250(size_t data, int backward, void (*function)(void)) {
+    int damage;
+    for (damage = 0; damage < 4; damage++) {
+        size_t g, k;
+        rindthok_write6250(bytes, data, words, WORDS, &group_count, &place);
+        for (g = 0; g < group_count; g++) {
+            maps[g].algebraic = damage == 2 ? 17 : 0;
+            for (k = 0; k < 9; k++) {
+                size_t from = backward ? group_count - 1 - g : g;
+                int wrong = (damage > 0 && k == 4) || (damage > 1 && k == 0);
+                uint16_t word = wrong ? 825 : words[9 * from + k];
+                turned[9 * g + k] = backward ? reversed(word) : word;
+            }
+        }
+        measure(read6250, function);
+    }
+}
+
+/* The same at 800: without error, with a wrong track, and refused. */
+static void read_at_800(size_t data, int backward, void (*function)(void)) {
+    int damage;
+    for (damage = 0; damage < 3; damage++) {
+        size_t k;
+        rindthok_write800(bytes, data, characters, CHARACTERS, &character_count, &place);
+        for (k = 0; k < character_count; k++)
+            turned[backward ? character_count - 1 - k : k] = characters[k];
+        if (damage)
+            turned[1] ^= 4;
+        if (damage > 1)
+            turned[2] ^= 8;
+        measure(read800, function);
+    }
+}
+
+#define ANY(function) ((void (*)(void))function)
+
+int main(void) {
+    static const size_t sizes[] = {1, 80, 400, 500, BYTES800, BYTES};
+    size_t k;
+    for (k = 0; k < BYTES; k++)
+        bytes[k] = (uint8_t)(k * 167 + k / 256);
+    for (k = 0; k < 6; k++) {
+        byte_count = sizes[k];
+        measure(write6250, ANY(rindthok_write6250));
+    }
+    tell("write6250");
+    for (k = 0; k < 6; k++)
+        read_at_6250(sizes[k], 0, ANY(rindthok_read6250_forward));
+    tell("read6250 forward");
+    for (k = 0; k < 6; k++)
+        read_at_6250(sizes[k], 1, ANY(rindthok_read6250_backward));
+    tell("read6250 backward");
+    for (k = 0; k < 5; k++) {
+        byte_count = sizes[k];
+        measure(write800, ANY(rindthok_write800));
+    }
+    tell("write800");
+    for (k = 0; k < 5; k++)
+        read_at_800(sizes[k], 0, ANY(rindthok_read800_forward));
+    tell("read800 forward");
+    for (k = 0; k < 5; k++)
+        read_at_800(sizes[k], 1, ANY(rindthok_read800_backward));
+    tell("read800 backward");
+    measure(move_words, ANY(rindthok_words_to_physical));
+    measure(move_words, ANY(rindthok_words_to_algebraic));
+    measure(move_map, ANY(rindthok_map_to_physical));
+    measure(move_map, ANY(rindthok_map_to_algebraic));
+    tell("head order");
+    return fflush(stdout) == 0 ? 0 : 1;
+}
