@@ -1,4 +1,2 @@
-pub mod Tracks
-pub mod Gathering
-pub mod Deciding
+pub mod Delivered
 pub mod Answering

@@ -4,7 +4,7 @@ use crate::written_status;
 use reader800::Read;
 ghost use mathlib.Core.Bool.{true, false};
 ghost use mathlib.Core.List.{[], _∷_};
-ghost use Rattle.reader800.specs.Told.{toldRead};
+ghost use Rattle.scan800.specs.Told.{toldRead};
 ghost use Rattle.terms.specs.Call as Call;
 ghost use Rattle.terms.specs.Reading.{bpi800, at800};
 ghost use Rattle.rindthok.specs.Called.{Told, Called};

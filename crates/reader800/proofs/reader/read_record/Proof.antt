@@ -11,11 +11,11 @@ use lib.ListN.{length, drop}
 use Rattle.answer.specs.Answer.{refusedFor, outputAfter}
 use Rattle.answer.specs.declared.Reason.the-variants.{StrayBits}
 use Rattle.record800.specs.Read.{readData, lengthSuits}
-use Rattle.reader800.specs.Told.{toldRead}
+use Rattle.scan800.specs.Told.{toldRead}
 use Rattle.record800.proofs.Candidate.{both-true}
 use Rattle.record800.proofs.Answer.{length-refused, space-refused, stray-refused, passed-judged, passed, length-data}
 use Rattle.reader800.proofs.Answering.{promised, refuses}
-use Rattle.reader800.proofs.Deciding.{told-data}
+use Rattle.reader800.proofs.Delivered.{told-data}
 use Rattle.reader800.proofs.reader.read_record.Statement.{statement}
 use Rattle.reader800.proofs.reader.read_record.Tie as tie
 
@@ -63,11 +63,11 @@ returns-3 c =
 parities-requires : tie.Need-parities-requires
 parities-requires c κs = search needs
 
-slice-aggregate-decided : tie.Need-slice-aggregate-decided
-slice-aggregate-decided c = search needs
+slice-aggregate-judge-record : tie.Need-slice-aggregate-judge-record
+slice-aggregate-judge-record c = search needs
 
-decided-requires : tie.Need-decided-requires
-decided-requires c κs =
+judge-record-requires : tie.Need-judge-record-requires
+judge-record-requires c κs =
     let stray = c .before .before .before in
     let length-test = stray .before .before in
     let suits = sym (length-test .before .length-suits .ensures) ∙ not-false _ (length-test .if1 .left) in
@@ -82,11 +82,11 @@ slice-aggregate-store c = search needs
 store-requires : tie.Need-store-requires
 store-requires c κs =
     let figures = c .before .before .before in
-    let decided = figures .before .before in
-    let told = sym (ap toldRead (figures .figures .given .1)) ∙ decided .decided .ensures in (
-      decided-requires (decided .before) (decided .decided .lifetimes) .0,
+    let judging = figures .before .before in
+    let told = sym (ap toldRead (figures .figures .given .1)) ∙ judging .judge-record .ensures in (
+      judge-record-requires (judging .before) (judging .judge-record .lifetimes) .0,
       told-data _ _ _ _ _ told .0,
-      decided .before .before .before .before .before .if2 .left,
+      judging .before .before .before .before .before .if2 .left,
       search needs,
     )
 
@@ -100,10 +100,10 @@ returns-4 : tie.Need-returns-4
 unfolding outputAfter readData
 returns-4 c =
     let figures = c .before .before .before .before .before .before in
-    let decided = figures .before .before in
-    let space-test = decided .before .before .before .before .before in
-    let told = sym (ap toldRead (figures .figures .given .1)) ∙ decided .decided .ensures in
-    let passes = decided-requires (decided .before) (decided .decided .lifetimes) .0 in
+    let judging = figures .before .before in
+    let space-test = judging .before .before .before .before .before in
+    let told = sym (ap toldRead (figures .figures .given .1)) ∙ judging .judge-record .ensures in
+    let passes = judge-record-requires (judging .before) (judging .judge-record .lifetimes) .0 in
     let output = now (space-test .before .before .before .before .before .args .output) in
     promised _ _ _ _ _ (told ∙ sym (passed-judged _ _ _ passes (le-leb _ _ (space-test .if2 .left))))
     (c .before .before .store .ensures
@@ -112,10 +112,10 @@ returns-4 c =
 returns-5 : tie.Need-returns-5
 unfolding outputAfter
 returns-5 c =
-    let decided = c .before .before .before in
-    let told = sym (ap toldRead (c .before .refusal .given .1)) ∙ decided .decided .ensures in
-    let passes = decided-requires (decided .before) (decided .decided .lifetimes) .0 in
-    let judged = passed-judged _ _ _ passes (le-leb _ _ (decided .before .before .before .before .before .if2 .left)) in
+    let judging = c .before .before .before in
+    let told = sym (ap toldRead (c .before .refusal .given .1)) ∙ judging .judge-record .ensures in
+    let passes = judge-record-requires (judging .before) (judging .judge-record .lifetimes) .0 in
+    let judged = passed-judged _ _ _ passes (le-leb _ _ (judging .before .before .before .before .before .if2 .left)) in
     refuses _ _ _ _ _ _ refl (judged ∙ sym told)
 
 pub read-record-spec : {M : Type 1} → statement M
@@ -132,8 +132,8 @@ read-record-spec =
     refused-requires-3
     returns-3
     parities-requires
-    slice-aggregate-decided
-    decided-requires
+    slice-aggregate-judge-record
+    judge-record-requires
     enum-known-figures
     slice-aggregate-store
     store-requires

@@ -12,9 +12,9 @@ use Rattle.indexed.proofs.Front.{front, front-more, front-all}
 use Rattle.indexed.proofs.Tabulate.{length-tabulate, getD-tabulate}
 use Rattle.register.specs.Xor.{_⊕_}
 use Rattle.record800.specs.Read.{picture, candidate}
-use Rattle.reader800.specs.Told.{storedData}
+use Rattle.reader800.specs.Stored.{storedData}
 use Rattle.record800.proofs.Candidate.{wrong-lt}
-use Rattle.reader800.proofs.Gathering.{in-table, data-wrong}
+use Rattle.scan800.proofs.Gathering.{in-table, data-wrong}
 use Rattle.record800.proofs.Picture.{lengths-within}
 use Rattle.reader800.proofs.reader.store.Statement.{statement}
 use Rattle.reader800.proofs.reader.store.Tie as tie
