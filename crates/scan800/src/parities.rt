@@ -4,7 +4,10 @@ ghost use mathlib.Core.Path.{_≡_};
 ghost use Rattle.indexed.specs.List.{tabulate};
 ghost use Rattle.register.specs.Parity.{parity};
 
-const PARITIES: [u16; 512] = [
+// A parity for each character of nine bits.
+pub type Parities = [u16; 512];
+
+const PARITIES: Parities = [
     0,
     1,
     1,
@@ -520,7 +523,7 @@ const PARITIES: [u16; 512] = [
 ];
 
 // The parity of each character.
-pub fn parities() -> [u16; 512]
+pub fn parities() -> Parities
     ensures { λ r. ⌜ r ≡ tabulate 512 parity ⌝ }
 {
     PARITIES
