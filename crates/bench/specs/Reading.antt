@@ -4,8 +4,16 @@ use Prim.Native.Nat.{ℕ, _+_}
 use mathlib.Core.Bool.{Bool, true, false, cond, not, _&&_}
 use lib.Dec.{eqb}
 use Rattle.rectangular.specs.Constants.{numbersPerGroup}
-use Rattle.text.specs.declared.line.Fault.{Fault}
-use Rattle.text.specs.declared.line.Fault.the-variants.{Nothing, NotANumber, TooLarge, NotAGroup}
+use Rattle.text.specs.declared.line.LineFault.{LineFault}
+use Rattle.text.specs.declared.line.LineFault.the-variants as Line
+use Rattle.bench.specs.declared.reading.Fault.{Fault}
+use Rattle.bench.specs.declared.reading.Fault.the-variants.{Nothing, NotANumber, TooLarge, NotAGroup}
+
+-- what is wrong with a line is wrong with the text
+abbrev pub lineFault : LineFault → Fault
+lineFault Line.Nothing = Nothing
+lineFault Line.NotANumber = NotANumber
+lineFault Line.TooLarge = TooLarge
 
 -- a line of a 6250 reading has the numbers of a group and a map, or has no map, or is empty
 abbrev pub rowLength : ℕ

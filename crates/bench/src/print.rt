@@ -1,5 +1,6 @@
 // What is printed: answers, numbers and data for standard output, faults for standard error. Each function puts its
 // text behind what the page holds, and tells how much it holds then.
+use crate::reading::Fault;
 use crate::reading::Parsed;
 use answer::Refusal;
 use page::PAGE;
@@ -7,7 +8,6 @@ use page::decimal;
 use page::hexadecimal;
 use page::put;
 use streams::Text;
-use text::Fault;
 ghost use Prim.Native.Nat.{_<_};
 
 pub(crate) fn space(page: &mut [u8; PAGE], held: usize) -> usize {

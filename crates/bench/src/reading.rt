@@ -2,7 +2,7 @@
 // out; at 800 characters, any number to a line. Empty lines are passed over. What the space does not hold
 // is read and dropped: the space is larger than the largest record, so the library refuses it by its length.
 use rectangular::Code6250;
-use text::Fault;
+use text::LineFault;
 use text::line_at;
 ghost use mathlib.Core.Path.{_≡_};
 ghost use Prim.Native.Nat.{_+_, _*_, _≤_, min};
@@ -10,10 +10,18 @@ ghost use mathlib.Core.Bool.{cond};
 ghost use lib.ListN.{length, take, getD, set};
 ghost use lib.Seq.{sets};
 ghost use Rattle.rectangular.specs.Constants.{numbersPerGroup};
-ghost use Rattle.bench.specs.Reading.{rowLength, groupFault, isStored, isWhole};
+ghost use Rattle.bench.specs.Reading.{rowLength, lineFault, groupFault, isStored, isWhole};
 
 // The numbers of a group, and its map.
 const ROW: usize = Code6250::NUMBERS + 1;
+
+// Why a text is turned down.
+pub(crate) enum Fault {
+    Nothing,
+    NotANumber,
+    TooLarge,
+    NotAGroup,
+}
 
 // What came of a text: what is wrong with it, the line where it was seen, how many numbers that line has,
 // and how many groups or characters are stored.
@@ -22,6 +30,17 @@ pub(crate) struct Parsed {
     pub line: usize,
     pub numbers: usize,
     pub stored: usize,
+}
+
+// What is wrong with a line is wrong with the text.
+fn line_fault(fault: LineFault) -> Fault
+    ensures { λ r. ⌜ r ≡ lineFault fault ⌝ }
+{
+    match fault {
+        LineFault::Nothing => Fault::Nothing,
+        LineFault::NotANumber => Fault::NotANumber,
+        LineFault::TooLarge => Fault::TooLarge,
+    }
 }
 
 // A line of a 6250 reading has the numbers of a group, with a map or without, or none.
@@ -111,7 +130,7 @@ pub(crate) fn groups(text: &[u8], words: &mut [u16], maps: &mut [u16]) -> Parsed
         let found = line_at(text, at, &mut row);
         let numbers = found.count;
         let seen = found.fault;
-        let fault = group_fault(seen, numbers);
+        let fault = group_fault(line_fault(seen), numbers);
         if !is_whole(fault) {
             return Parsed {
                 fault,
@@ -154,7 +173,8 @@ pub(crate) fn characters(text: &[u8], characters: &mut [u16]) -> Parsed
     let mut at = 0;
     while at <= text.len() {
         let found = line_at(text, at, &mut characters[stored..]);
-        let fault = found.fault;
+        let seen = found.fault;
+        let fault = line_fault(seen);
         let numbers = found.count;
         if !is_whole(fault) {
             return Parsed {

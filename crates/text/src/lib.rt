@@ -2,6 +2,6 @@
 mod line;
 mod number;
 
-pub use line::Fault;
+pub use line::LineFault;
 pub use line::Row;
 pub use line::line_at;

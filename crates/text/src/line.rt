@@ -5,24 +5,24 @@ use crate::number::separates;
 ghost use mathlib.Core.Path.{_≡_};
 ghost use Prim.Native.Nat.{_≤_};
 ghost use lib.ListN.{length, set};
+ghost use Rattle.text.specs.Line.{rowOf, lineAt};
 
-// Why a text is turned down.
-pub enum Fault {
+// What is wrong with a line.
+pub enum LineFault {
     Nothing,
     NotANumber,
     TooLarge,
-    NotAGroup,
 }
 
 // A line of the text: how many numbers it has, the place of its end, and what is wrong with it.
 pub struct Row {
     pub count: usize,
     pub end: usize,
-    pub fault: Fault,
+    pub fault: LineFault,
 }
 
-fn line(count: usize, end: usize, fault: Fault) -> Row
-    ensures { λ r. ⌜ (r .count ≡ count) × (r .end ≡ end) ⌝ }
+fn line(count: usize, end: usize, fault: LineFault) -> Row
+    ensures { λ r. ⌜ r ≡ rowOf count end fault ⌝ }
 {
     Row { count, end, fault }
 }
@@ -40,14 +40,15 @@ fn put(values: &mut [u16], at: usize, value: u16)
 // first number that is none, or is above 65,535, ends it.
 pub fn line_at(text: &[u8], at: usize, row: &mut [u16]) -> Row
     requires { ⌜ at ≤ length (now text) ⌝ }
-    ensures line { λ r. ⌜ (at ≤ r .end) × (r .end ≤ length (now (text .entry))) × (r .count ≤ r .end) ⌝ }
-    ensures row { λ _. ⌜ length (now (row .exit)) ≡ length (now (row .entry)) ⌝ }
+    ensures line { λ r. ⌜ r ≡ lineAt (now (text .entry)) at (now (row .entry)) .0 ⌝ }
+    ensures row { λ _. ⌜ now (row .exit) ≡ lineAt (now (text .entry)) at (now (row .entry)) .1 ⌝ }
+    ensures within { λ r. ⌜ (at ≤ r .end) × (r .end ≤ length (now (text .entry))) × (r .count ≤ r .end) × (length (now (row .exit)) ≡ length (now (row .entry))) ⌝ }
 {
     let mut count = 0;
     let mut end = at;
     while end < text.len() {
         if text[end] == b'\n' {
-            return line(count, end, Fault::Nothing);
+            return line(count, end, LineFault::Nothing);
         }
         if separates(text[end]) {
             end += 1;
@@ -55,14 +56,14 @@ pub fn line_at(text: &[u8], at: usize, row: &mut [u16]) -> Row
         }
         let number = number_at(text, end);
         if number.value > TOO_LARGE {
-            return line(count, end, Fault::NotANumber);
+            return line(count, end, LineFault::NotANumber);
         }
         if number.value == TOO_LARGE {
-            return line(count, end, Fault::TooLarge);
+            return line(count, end, LineFault::TooLarge);
         }
         put(row, count, number.value as u16);
         count += 1;
         end = number.end;
     }
-    line(count, end, Fault::Nothing)
+    line(count, end, LineFault::Nothing)
 }

@@ -32,6 +32,9 @@ part-line-at-end c = search needs
 line-at-requires : tie.Need-line-at-requires Inv-loop μ-loop
 line-at-requires c κs = search needs
 
+line-fault-requires : tie.Need-line-fault-requires Inv-loop μ-loop
+line-fault-requires c κs = search needs
+
 is-whole-requires : tie.Need-is-whole-requires Inv-loop μ-loop
 is-whole-requires c κs = search needs
 
@@ -74,6 +77,7 @@ characters-spec =
     part-line-at-start
     part-line-at-end
     line-at-requires
+    line-fault-requires
     is-whole-requires
     same-length
     returns

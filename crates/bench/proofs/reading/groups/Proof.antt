@@ -23,6 +23,9 @@ slice-aggregate-line-at c = search needs
 line-at-requires : tie.Need-line-at-requires Inv-loop μ-loop
 line-at-requires c κs = search needs
 
+line-fault-requires : tie.Need-line-fault-requires Inv-loop μ-loop
+line-fault-requires c κs = search needs
+
 group-fault-requires : tie.Need-group-fault-requires Inv-loop μ-loop
 group-fault-requires c κs = search needs
 
@@ -74,6 +77,7 @@ groups-spec =
     loop-holds
     slice-aggregate-line-at
     line-at-requires
+    line-fault-requires
     group-fault-requires
     is-whole-requires
     same-length

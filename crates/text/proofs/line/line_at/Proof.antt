@@ -1,23 +1,28 @@
--- `text::line::line_at` is safe and ends: every turn passes a byte at least.
+-- `text::line::line_at` meets its contract. The loop's invariant: what is left of the line is read as the whole of it is. Every turn
+-- passes a byte at least.
 -- Assumes nothing.
 use Prim.Native.Nat.{_≤_, _-_}
-use mathlib.Core.Path.{_≡_, sym, _∙_}
+use mathlib.Core.Path.{_≡_, refl, sym, _∙_}
 use native.Mathlib.Omega.{arith}
 use borrow.Author.Needs.{needs}
+use borrow.Author.Tests.{ne-eqb}
+use denote.Ref.{now}
 use lib.ListN.{length}
+use Rattle.text.specs.Line.{lineAt}
+use Rattle.text.proofs.Lines.{Rest, text-ends, line-ends, blank-passed, none-read, large-read, number-stored, told}
 use Rattle.text.proofs.Numbers.{number-ahead, number-within}
 use Rattle.text.proofs.line.line_at.Statement.{statement}
 use Rattle.text.proofs.line.line_at.Tie as tie
 
 abbrev Inv-loop : tie.InvT-loop
 Inv-loop text at row₀ count₀ end₀ row count end =
-    (at ≤ end) × (end ≤ length text) × (count ≤ end) × (length row ≡ length row₀)
+    (at ≤ end) × (end ≤ length text) × (count ≤ end) × (length row ≡ length row₀) × Rest text (lineAt text at row₀) count end row
 
 abbrev μ-loop : tie.MeasureT-loop
 μ-loop text at row₀ count₀ end₀ row count end = length text - end
 
 loop-holds : tie.Need-loop-holds Inv-loop μ-loop
-loop-holds c = search needs
+loop-holds c = (search needs, search needs, search needs, search needs, (length (now (c .before .before .args .text)), omega arith, refl))
 
 shared-slice-read-if1 : tie.Need-shared-slice-read-if1 Inv-loop μ-loop
 shared-slice-read-if1 c = search needs
@@ -29,7 +34,12 @@ same-length : tie.Need-same-length Inv-loop μ-loop
 same-length c = search needs
 
 returns : tie.Need-returns Inv-loop μ-loop
-returns c = search needs
+returns c =
+    let k = c .before .before .before in
+    let start = k .before .before .before .before .args in
+    let at = k .before .loop in
+    let ends = line-ends (now (start .text)) _ (at .count) (at .end) (at .row) (k .loop-test .taken) (c .before .if1 .taken) (at .inv .4) in
+    told (now (start .text)) (now (start .row)) (start .at) _ (at .row) _ _ _ (c .line .ensures) ends (at .inv .0, at .inv .1, at .inv .2, at .inv .3)
 
 shared-slice-read-separates : tie.Need-shared-slice-read-separates Inv-loop μ-loop
 shared-slice-read-separates c = search needs
@@ -44,7 +54,12 @@ loop-less : tie.Need-loop-less Inv-loop μ-loop
 loop-less c = search needs
 
 loop-again : tie.Need-loop-again Inv-loop μ-loop
-loop-again c = search needs
+loop-again c =
+    let k = c .before .before .before .before .before in
+    let at = k .before .loop in
+    let passed = blank-passed (now (k .before .before .before .before .args .text)) _ (at .count) (at .end) (at .row) (k .loop-test .taken)
+    (ne-eqb _ _ (c .before .before .before .if1 .left)) (sym (c .before .separates .ensures) ∙ c .if2 .taken) (at .inv .4) in
+    (search needs, search needs, search needs, search needs, passed)
 
 number-at-requires : tie.Need-number-at-requires Inv-loop μ-loop
 number-at-requires c κs = search needs
@@ -56,7 +71,16 @@ same-length-2 : tie.Need-same-length-2 Inv-loop μ-loop
 same-length-2 c = search needs
 
 returns-2 : tie.Need-returns-2 Inv-loop μ-loop
-returns-2 c = search needs
+returns-2 c =
+    let n = c .before .before .before in
+    let k = n .before .before .before .before .before .before in
+    let start = k .before .before .before .before .args in
+    let text = now (start .text) in
+    let at = k .before .loop in
+    let none = none-read text _ (at .count) (at .end) (at .row) (k .loop-test .taken)
+    (ne-eqb _ _ (n .before .before .before .before .if1 .left)) (sym (n .before .before .separates .ensures) ∙ n .before .if2 .left)
+    (n .number-at .result) (n .number-at .ensures) (c .before .if3 .taken) (at .inv .4) in
+    told text (now (start .row)) (start .at) _ (at .row) _ _ _ (c .line2 .ensures) none (at .inv .0, at .inv .1, at .inv .2, at .inv .3)
 
 line-requires-3 : tie.Need-line-requires-3 Inv-loop μ-loop
 line-requires-3 c κs = search needs
@@ -65,7 +89,16 @@ same-length-3 : tie.Need-same-length-3 Inv-loop μ-loop
 same-length-3 c = search needs
 
 returns-3 : tie.Need-returns-3 Inv-loop μ-loop
-returns-3 c = search needs
+returns-3 c =
+    let n = c .before .before .before .before .before in
+    let k = n .before .before .before .before .before .before in
+    let start = k .before .before .before .before .args in
+    let text = now (start .text) in
+    let at = k .before .loop in
+    let large = large-read text _ (at .count) (at .end) (at .row) (k .loop-test .taken)
+    (ne-eqb _ _ (n .before .before .before .before .if1 .left)) (sym (n .before .before .separates .ensures) ∙ n .before .if2 .left)
+    (n .number-at .result) (n .number-at .ensures) (c .before .if4 .taken) (at .inv .4) in
+    told text (now (start .row)) (start .at) _ (at .row) _ _ _ (c .line3 .ensures) large (at .inv .0, at .inv .1, at .inv .2, at .inv .3)
 
 cast-put : tie.Need-cast-put Inv-loop μ-loop
 cast-put c = search needs
@@ -89,10 +122,16 @@ loop-again-2 : tie.Need-loop-again-2 Inv-loop μ-loop
 loop-again-2 c =
     let n = c .before .before .before .before .before .before .before .before .before in
     let k = n .before .before .before .before .before .before in
-    let text = k .before .before .before .before .args .text .now in
-    let ahead = number-ahead text (k .before .loop .end) (n .number-at .result) (k .loop-test .taken) (sym (n .before .before .separates .ensures) ∙ n .before .if2 .left) (n .number-at .ensures) in
-    let within = number-within text (k .before .loop .end) (n .number-at .result) (k .loop-test .taken) (n .number-at .ensures) in
-    (omega arith, omega arith, omega arith, search needs)
+    let start = k .before .before .before .before .args in
+    let text = now (start .text) in
+    let at = k .before .loop in
+    let begins = sym (n .before .before .separates .ensures) ∙ n .before .if2 .left in
+    let ahead = number-ahead text (at .end) (n .number-at .result) (k .loop-test .taken) begins (n .number-at .ensures) in
+    let within = number-within text (at .end) (n .number-at .result) (k .loop-test .taken) (n .number-at .ensures) in
+    let stored = number-stored text _ (at .count) (at .end) (at .row) (k .loop-test .taken)
+    (ne-eqb _ _ (n .before .before .before .before .if1 .left)) begins (n .number-at .result) (n .number-at .ensures)
+    (c .before .before .before .before .before .before .before .if3 .left) (ne-eqb _ _ (c .before .before .before .before .before .if4 .left)) ahead (at .inv .4) in
+    (omega arith, omega arith, omega arith, search needs, rw (c .before .before .put .ensures) stored)
 
 line-requires-4 : tie.Need-line-requires-4 Inv-loop μ-loop
 line-requires-4 c κs = search needs
@@ -101,7 +140,11 @@ same-length-4 : tie.Need-same-length-4 Inv-loop μ-loop
 same-length-4 c = search needs
 
 returns-4 : tie.Need-returns-4 Inv-loop μ-loop
-returns-4 c = search needs
+returns-4 c =
+    let at = c .before .before .loop in
+    let start = c .before .before .before .before .before .args in
+    let ends = text-ends (now (start .text)) _ (at .count) (at .end) (at .row) (c .before .loop-test .left) (at .inv .4) in
+    told (now (start .text)) (now (start .row)) (start .at) _ (at .row) _ _ _ (c .line4 .ensures) ends (at .inv .0, at .inv .1, at .inv .2, at .inv .3)
 
 pub line-at-spec : {M : Type 1} → statement M
 line-at-spec =
