@@ -12,6 +12,8 @@ static unsigned char stack[STACK] __attribute__((aligned(64)));
 static uint8_t bytes[BYTES], output[7 * GROUPS];
 static uint16_t words[WORDS], characters[CHARACTERS], turned[WORDS], nine[9];
 static rindthok_algebraic_map maps[GROUPS];
+enum { SIZES = 6 };
+static const size_t sizes[SIZES] = {1, 80, 400, 500, BYTES800, BYTES};
 static size_t byte_count, group_count, character_count, told[3], place;
 
 /* What is called: the call that is measured, or what stands in for it and notes where the stack stands. */
@@ -48,14 +50,14 @@ static long touched(void (*call)(void), void (*function)(void), int colour) {
 
 static long most;
 
-/* The second of two runs: in the first the linker may have bound the C library's functions. */
+/* The most of two runs in each colour, of which the first does not count: in it the C library may set itself up. */
 static void measure(void (*call)(void), void (*function)(void)) {
-    int colour;
-    for (colour = 0; colour < 4; colour++) {
+    int run;
+    for (run = 0; run < 4; run++) {
         long bytes_touched;
         touched(call, probe, 0xa5);
-        bytes_touched = touched(call, function, colour % 2 ? 0xa5 : 0x5a);
-        if (colour > 1 && bytes_touched > most)
+        bytes_touched = touched(call, function, run % 2 ? 0xa5 : 0x5a);
+        if (run > 1 && bytes_touched > most)
             most = bytes_touched;
     }
 }
@@ -63,6 +65,16 @@ static void measure(void (*call)(void), void (*function)(void)) {
 static void tell(const char *name) {
     printf("%-18s %ld\n", name, most);
     most = 0;
+}
+
+/* Data of up to so many bytes, written. */
+static void writes(const char *name, size_t limit, void (*call)(void), void (*function)(void)) {
+    size_t k;
+    for (k = 0; k < SIZES && sizes[k] <= limit; k++) {
+        byte_count = sizes[k];
+        measure(call, function);
+    }
+    tell(name);
 }
 
 static uint16_t reversed(uint16_t word) {
@@ -108,35 +120,29 @@ static void read_at_800(size_t data, int backward, void (*function)(void)) {
     }
 }
 
+/* Records of data of up to so many bytes, read forward and backward. */
+static void reads(const char *forward, const char *backward, size_t limit, void (*read)(size_t, int, void (*)(void)), void (*functions[2])(void)) {
+    int direction;
+    for (direction = 0; direction < 2; direction++) {
+        size_t k;
+        for (k = 0; k < SIZES && sizes[k] <= limit; k++)
+            read(sizes[k], direction, functions[direction]);
+        tell(direction ? backward : forward);
+    }
+}
+
 #define ANY(function) ((void (*)(void))function)
 
 int main(void) {
-    static const size_t sizes[] = {1, 80, 400, 500, BYTES800, BYTES};
+    static void (*at6250[])(void) = {ANY(rindthok_read6250_forward), ANY(rindthok_read6250_backward)};
+    static void (*at800[])(void) = {ANY(rindthok_read800_forward), ANY(rindthok_read800_backward)};
     size_t k;
     for (k = 0; k < BYTES; k++)
         bytes[k] = (uint8_t)(k * 167 + k / 256);
-    for (k = 0; k < 6; k++) {
-        byte_count = sizes[k];
-        measure(write6250, ANY(rindthok_write6250));
-    }
-    tell("write6250");
-    for (k = 0; k < 6; k++)
-        read_at_6250(sizes[k], 0, ANY(rindthok_read6250_forward));
-    tell("read6250 forward");
-    for (k = 0; k < 6; k++)
-        read_at_6250(sizes[k], 1, ANY(rindthok_read6250_backward));
-    tell("read6250 backward");
-    for (k = 0; k < 5; k++) {
-        byte_count = sizes[k];
-        measure(write800, ANY(rindthok_write800));
-    }
-    tell("write800");
-    for (k = 0; k < 5; k++)
-        read_at_800(sizes[k], 0, ANY(rindthok_read800_forward));
-    tell("read800 forward");
-    for (k = 0; k < 5; k++)
-        read_at_800(sizes[k], 1, ANY(rindthok_read800_backward));
-    tell("read800 backward");
+    writes("write6250", BYTES, write6250, ANY(rindthok_write6250));
+    reads("read6250 forward", "read6250 backward", BYTES, read_at_6250, at6250);
+    writes("write800", BYTES800, write800, ANY(rindthok_write800));
+    reads("read800 forward", "read800 backward", BYTES800, read_at_800, at800);
     measure(move_words, ANY(rindthok_words_to_physical));
     measure(move_words, ANY(rindthok_words_to_algebraic));
     measure(move_map, ANY(rindthok_map_to_physical));

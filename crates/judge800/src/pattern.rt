@@ -9,7 +9,7 @@ ghost use Rattle.cyclic.specs.Constants.{feedback, exponent, ahead};
 // So many shifts take the error-pattern register, X^8 E, to E: the exponent of X is 17.
 const SHIFTS_BACK: usize = Code800::EXPONENT - Code800::AHEAD;
 
-// A register shifted so often.
+// E, out of the register.
 pub fn unshifted(error: u16) -> u16
     requires { ⌜ error < 512 ⌝ }
     ensures { λ r. ⌜ r ≡ shifts 9 feedback (exponent - ahead) error ⌝ }
