@@ -9,9 +9,9 @@ use borrow.Author.Tests.{le-leb, lt-leb, eq-eqb, lt-ltb, le-ltb}
 use lib.Dec.{eqb}
 use lib.ListN.{length, getD, drop, set}
 use Rattle.text.specs.Number.{classOf, separating, scanned, tooLarge}
-use Rattle.text.specs.Line.{rowOf, lineFrom, lineAt}
+use Rattle.text.specs.Line.{rowOf, faultOf, lineFrom, lineAt}
 use Rattle.text.specs.declared.line.LineFault.{LineFault}
-use Rattle.text.specs.declared.line.LineFault.the-variants.{Nothing, NotANumber, TooLarge}
+use Rattle.text.specs.declared.line.LineFault.the-variants.{Nothing}
 use Rattle.text.specs.declared.line.Row.{Row}
 use Rattle.text.specs.declared.number.Number.{Number}
 
@@ -39,24 +39,16 @@ module _ (text : List ℕ) (whole : Row × List ℕ) where
 
       -- a number begins here
       module _ (other : eqb (getD text end 0) 10 ≡ false) (begins : separating (classOf (getD text end 0)) ≡ false) (n : Number) (is : n ≡ scanned 0 end (drop end text)) where
-        pub none-read : tooLarge < n .value → Rest count end row → (rowOf count end NotANumber, row) ≡ whole
+        pub fault-read : tooLarge ≤ n .value → Rest count end row → (rowOf count end (faultOf (n .value)), row) ≡ whole
         unfolding lineFrom
-        none-read none (zero, long, e) = absurd (omega arith)
-        none-read none (suc turns, long, e) = sym (rw (lt-leb _ _ h, other, begins, sym is, lt-ltb _ _ none) refl) ∙ e
+        fault-read large (zero, long, e) = absurd (omega arith)
+        fault-read large (suc turns, long, e) = sym (rw (lt-leb _ _ h, other, begins, sym is, le-ltb _ _ large) refl) ∙ e
 
-        pub large-read : n .value ≡ tooLarge → Rest count end row → (rowOf count end TooLarge, row) ≡ whole
+        pub number-stored : n .value < tooLarge → end + 1 ≤ n .end → Rest count end row → Rest (count + 1) (n .end) (set row count (n .value))
         unfolding lineFrom
-        large-read large (zero, long, e) = absurd (omega arith)
-        large-read large (suc turns, long, e) =
-            let most : n .value ≤ tooLarge = omega (arith, large) in
-            sym (rw (lt-leb _ _ h, other, begins, sym is, le-ltb _ _ most, eq-eqb _ _ large) refl) ∙ e
-
-        pub number-stored : n .value ≤ tooLarge → eqb (n .value) tooLarge ≡ false → end + 1 ≤ n .end → Rest count end row
-            → Rest (count + 1) (n .end) (set row count (n .value))
-        unfolding lineFrom
-        number-stored most small ahead (zero, long, e) = absurd (omega arith)
-        number-stored most small ahead (suc turns, long, e) =
-            (turns, omega arith, sym (rw (lt-leb _ _ h, other, begins, sym is, le-ltb _ _ most, small) refl) ∙ e)
+        number-stored small ahead (zero, long, e) = absurd (omega arith)
+        number-stored small ahead (suc turns, long, e) =
+            (turns, omega arith, sym (rw (lt-leb _ _ h, other, begins, sym is, lt-ltb _ _ small) refl) ∙ e)
 
 -- what is told where a line ends
 module _ (text row : List ℕ) (at : ℕ) (r : Row) (row' : List ℕ) (count end : ℕ) (fault : LineFault) where

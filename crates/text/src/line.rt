@@ -5,7 +5,7 @@ use crate::number::separates;
 ghost use mathlib.Core.Path.{_≡_};
 ghost use Prim.Native.Nat.{_≤_};
 ghost use lib.ListN.{length, set};
-ghost use Rattle.text.specs.Line.{rowOf, lineAt};
+ghost use Rattle.text.specs.Line.{rowOf, faultOf, lineAt};
 
 // What is wrong with a line.
 pub enum LineFault {
@@ -25,6 +25,16 @@ fn line(count: usize, end: usize, fault: LineFault) -> Row
     ensures { λ r. ⌜ r ≡ rowOf count end fault ⌝ }
 {
     Row { count, end, fault }
+}
+
+// What is wrong with a number that is none, or is too large.
+fn fault_of(value: u32) -> LineFault
+    ensures { λ r. ⌜ r ≡ faultOf value ⌝ }
+{
+    if value == TOO_LARGE {
+        return LineFault::TooLarge;
+    }
+    LineFault::NotANumber
 }
 
 // Stores a value, where there is space for it.
@@ -55,11 +65,8 @@ pub fn line_at(text: &[u8], at: usize, row: &mut [u16]) -> Row
             continue;
         }
         let number = number_at(text, end);
-        if number.value > TOO_LARGE {
-            return line(count, end, LineFault::NotANumber);
-        }
-        if number.value == TOO_LARGE {
-            return line(count, end, LineFault::TooLarge);
+        if number.value >= TOO_LARGE {
+            return line(count, end, fault_of(number.value));
         }
         put(row, count, number.value as u16);
         count += 1;

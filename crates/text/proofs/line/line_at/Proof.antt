@@ -2,14 +2,14 @@
 -- passes a byte at least.
 -- Assumes nothing.
 use Prim.Native.Nat.{_≤_, _-_}
-use mathlib.Core.Path.{_≡_, refl, sym, _∙_}
+use mathlib.Core.Path.{_≡_, refl, sym, ap, _∙_}
 use native.Mathlib.Omega.{arith}
 use borrow.Author.Needs.{needs}
 use borrow.Author.Tests.{ne-eqb}
 use denote.Ref.{now}
 use lib.ListN.{length}
-use Rattle.text.specs.Line.{lineAt}
-use Rattle.text.proofs.Lines.{Rest, text-ends, line-ends, blank-passed, none-read, large-read, number-stored, told}
+use Rattle.text.specs.Line.{rowOf, lineAt}
+use Rattle.text.proofs.Lines.{Rest, text-ends, line-ends, blank-passed, fault-read, number-stored, told}
 use Rattle.text.proofs.Numbers.{number-ahead, number-within}
 use Rattle.text.proofs.line.line_at.Statement.{statement}
 use Rattle.text.proofs.line.line_at.Tie as tie
@@ -64,6 +64,9 @@ loop-again c =
 number-at-requires : tie.Need-number-at-requires Inv-loop μ-loop
 number-at-requires c κs = search needs
 
+fault-of-requires : tie.Need-fault-of-requires Inv-loop μ-loop
+fault-of-requires c κs = search needs
+
 line-requires-2 : tie.Need-line-requires-2 Inv-loop μ-loop
 line-requires-2 c κs = search needs
 
@@ -72,33 +75,14 @@ same-length-2 c = search needs
 
 returns-2 : tie.Need-returns-2 Inv-loop μ-loop
 returns-2 c =
-    let n = c .before .before .before in
+    let n = c .before .before .before .before in
     let k = n .before .before .before .before .before .before in
     let start = k .before .before .before .before .args in
-    let text = now (start .text) in
     let at = k .before .loop in
-    let none = none-read text _ (at .count) (at .end) (at .row) (k .loop-test .taken)
-    (ne-eqb _ _ (n .before .before .before .before .if1 .left)) (sym (n .before .before .separates .ensures) ∙ n .before .if2 .left)
-    (n .number-at .result) (n .number-at .ensures) (c .before .if3 .taken) (at .inv .4) in
-    told text (now (start .row)) (start .at) _ (at .row) _ _ _ (c .line2 .ensures) none (at .inv .0, at .inv .1, at .inv .2, at .inv .3)
-
-line-requires-3 : tie.Need-line-requires-3 Inv-loop μ-loop
-line-requires-3 c κs = search needs
-
-same-length-3 : tie.Need-same-length-3 Inv-loop μ-loop
-same-length-3 c = search needs
-
-returns-3 : tie.Need-returns-3 Inv-loop μ-loop
-returns-3 c =
-    let n = c .before .before .before .before .before in
-    let k = n .before .before .before .before .before .before in
-    let start = k .before .before .before .before .args in
-    let text = now (start .text) in
-    let at = k .before .loop in
-    let large = large-read text _ (at .count) (at .end) (at .row) (k .loop-test .taken)
-    (ne-eqb _ _ (n .before .before .before .before .if1 .left)) (sym (n .before .before .separates .ensures) ∙ n .before .if2 .left)
-    (n .number-at .result) (n .number-at .ensures) (c .before .if4 .taken) (at .inv .4) in
-    told text (now (start .row)) (start .at) _ (at .row) _ _ _ (c .line3 .ensures) large (at .inv .0, at .inv .1, at .inv .2, at .inv .3)
+    let faulty = fault-read (now (start .text)) _ (at .count) (at .end) (at .row) (k .loop-test .taken) (ne-eqb _ _ (n .before .before .before .before .if1 .left))
+    (sym (n .before .before .separates .ensures) ∙ n .before .if2 .left) (n .number-at .result) (n .number-at .ensures) (c .before .before .if3 .taken) (at .inv .4) in
+    told (now (start .text)) (now (start .row)) (start .at) _ (at .row) _ _ _ (c .line2 .ensures ∙ ap (rowOf (at .count) (at .end)) (c .before .fault-of .ensures)) faulty
+    (at .inv .0, at .inv .1, at .inv .2, at .inv .3)
 
 cast-put : tie.Need-cast-put Inv-loop μ-loop
 cast-put c = search needs
@@ -111,7 +95,7 @@ add-count c = search needs
 
 loop-less-2 : tie.Need-loop-less-2 Inv-loop μ-loop
 loop-less-2 c =
-    let n = c .before .before .before .before .before .before .before .before .before in
+    let n = c .before .before .before .before .before .before .before in
     let k = n .before .before .before .before .before .before in
     let text = k .before .before .before .before .args .text .now in
     let ahead = number-ahead text (k .before .loop .end) (n .number-at .result) (k .loop-test .taken) (sym (n .before .before .separates .ensures) ∙ n .before .if2 .left) (n .number-at .ensures) in
@@ -120,7 +104,7 @@ loop-less-2 c =
 
 loop-again-2 : tie.Need-loop-again-2 Inv-loop μ-loop
 loop-again-2 c =
-    let n = c .before .before .before .before .before .before .before .before .before in
+    let n = c .before .before .before .before .before .before .before in
     let k = n .before .before .before .before .before .before in
     let start = k .before .before .before .before .args in
     let text = now (start .text) in
@@ -130,21 +114,21 @@ loop-again-2 c =
     let within = number-within text (at .end) (n .number-at .result) (k .loop-test .taken) (n .number-at .ensures) in
     let stored = number-stored text _ (at .count) (at .end) (at .row) (k .loop-test .taken)
     (ne-eqb _ _ (n .before .before .before .before .if1 .left)) begins (n .number-at .result) (n .number-at .ensures)
-    (c .before .before .before .before .before .before .before .if3 .left) (ne-eqb _ _ (c .before .before .before .before .before .if4 .left)) ahead (at .inv .4) in
+    (c .before .before .before .before .before .if3 .left) ahead (at .inv .4) in
     (omega arith, omega arith, omega arith, search needs, rw (c .before .before .put .ensures) stored)
 
-line-requires-4 : tie.Need-line-requires-4 Inv-loop μ-loop
-line-requires-4 c κs = search needs
+line-requires-3 : tie.Need-line-requires-3 Inv-loop μ-loop
+line-requires-3 c κs = search needs
 
-same-length-4 : tie.Need-same-length-4 Inv-loop μ-loop
-same-length-4 c = search needs
+same-length-3 : tie.Need-same-length-3 Inv-loop μ-loop
+same-length-3 c = search needs
 
-returns-4 : tie.Need-returns-4 Inv-loop μ-loop
-returns-4 c =
+returns-3 : tie.Need-returns-3 Inv-loop μ-loop
+returns-3 c =
     let at = c .before .before .loop in
     let start = c .before .before .before .before .before .args in
     let ends = text-ends (now (start .text)) _ (at .count) (at .end) (at .row) (c .before .loop-test .left) (at .inv .4) in
-    told (now (start .text)) (now (start .row)) (start .at) _ (at .row) _ _ _ (c .line4 .ensures) ends (at .inv .0, at .inv .1, at .inv .2, at .inv .3)
+    told (now (start .text)) (now (start .row)) (start .at) _ (at .row) _ _ _ (c .line3 .ensures) ends (at .inv .0, at .inv .1, at .inv .2, at .inv .3)
 
 pub line-at-spec : {M : Type 1} → statement M
 line-at-spec =
@@ -163,17 +147,15 @@ line-at-spec =
     loop-less
     loop-again
     number-at-requires
+    fault-of-requires
     line-requires-2
     same-length-2
     returns-2
-    line-requires-3
-    same-length-3
-    returns-3
     cast-put
     put-requires
     add-count
     loop-less-2
     loop-again-2
-    line-requires-4
-    same-length-4
-    returns-4)
+    line-requires-3
+    same-length-3
+    returns-3)

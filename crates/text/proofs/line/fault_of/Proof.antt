@@ -1,0 +1,14 @@
+-- `text::line::fault_of` meets its contract.
+-- Assumes nothing.
+use borrow.Author.Tests.{eq-eqb, ne-eqb}
+use Rattle.text.proofs.line.fault_of.Statement.{statement}
+use Rattle.text.proofs.line.fault_of.Tie as tie
+
+returns : tie.Need-returns
+returns c = simp (eq-eqb _ _ (c .if1 .taken))
+
+returns-2 : tie.Need-returns-2
+returns-2 c = simp (ne-eqb _ _ (c .if1 .left))
+
+pub fault-of-spec : {M : Type 1} → statement M
+fault-of-spec = tie.close (tie.spec returns returns-2)
