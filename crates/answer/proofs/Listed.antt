@@ -12,7 +12,7 @@ use lib.Dec.{T, eqb, ltb, ltb→lt}
 use Rattle.indexed.proofs.Test.{both-left, both-right}
 use Rattle.answer.specs.Answer.{Answer, delivered, refused, refusedFor, numberOf, refusals}
 use Rattle.answer.specs.declared.Reason.{Reason}
-use Rattle.answer.specs.declared.Reason.the-variants.{Length, Space, StrayBits, ManyPointed, NoGroup, Padding, NoRecord, SeveralRecords}
+use Rattle.answer.specs.declared.Reason.the-variants.{Length, Space, StrayBits, ManyPointed, NoGroup, Padding, NoRecord, SeveralRecords, LogLength, LogContent}
 
 -- a test whether a number stands in a list
 stands : ℕ → List ℕ → Bool
@@ -38,6 +38,8 @@ listed NoGroup = is-member _ refusals tt
 listed Padding = is-member _ refusals tt
 listed NoRecord = is-member _ refusals tt
 listed SeveralRecords = is-member _ refusals tt
+listed LogLength = is-member _ refusals tt
+listed LogContent = is-member _ refusals tt
 
 -- a call from C returns 0 for a delivery: no refusal has that number
 positives : List ℕ → Bool

@@ -4,12 +4,12 @@ use Prim.Native.Nat.{ℕ}
 use mathlib.Core.List.{List, [], _∷_, _++_}
 use lib.ListN.{length, drop}
 use Rattle.answer.specs.declared.Reason.{Reason}
-use Rattle.answer.specs.declared.Reason.the-variants.{Length, Space, StrayBits, ManyPointed, NoGroup, Padding, NoRecord, SeveralRecords}
+use Rattle.answer.specs.declared.Reason.the-variants.{Length, Space, StrayBits, ManyPointed, NoGroup, Padding, NoRecord, SeveralRecords, LogLength, LogContent}
 use Rattle.answer.specs.declared.Refusal.{Refusal}
 use Rattle.answer.specs.declared.Written.{Written}
 use Rattle.answer.specs.declared.Written.the-variants.{Delivered, Refused}
 
--- the numbers of document 01's table, "Where a call is turned down"
+-- the numbers of document 01's table, "Where a call is turned down", and those that document 02 adds: 9 and 10 by request 2.1
 abbrev pub numberOf : Reason → ℕ
 numberOf Length = 1
 numberOf Space = 2
@@ -19,10 +19,12 @@ numberOf NoGroup = 5
 numberOf Padding = 6
 numberOf NoRecord = 7
 numberOf SeveralRecords = 8
+numberOf LogLength = 9
+numberOf LogContent = 10
 
 -- the numbers of all refusals: each reason's is among them
 abbrev pub refusals : List ℕ
-refusals = 1 ∷ 2 ∷ 3 ∷ 4 ∷ 5 ∷ 6 ∷ 7 ∷ 8 ∷ []
+refusals = 1 ∷ 2 ∷ 3 ∷ 4 ∷ 5 ∷ 6 ∷ 7 ∷ 8 ∷ 9 ∷ 10 ∷ []
 
 -- an answer: the values that a delivery tells, in the paper's order, or a refusal's number and place
 pub data Answer : Type 0 where
@@ -37,7 +39,7 @@ refusedFor reason place = refused (numberOf reason) place
 abbrev pub toldRefusal : Refusal → Answer
 toldRefusal r = refusedFor (r .reason) (r .place)
 
--- what a writer tells: a delivery tells the number of groups or characters
+-- what a writer tells: a delivery tells the number of groups or characters, or, of a log, its bytes
 abbrev pub toldWritten : Written → Answer
 toldWritten (Delivered count) = delivered (count ∷ [])
 toldWritten (Refused r) = toldRefusal r

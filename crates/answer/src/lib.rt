@@ -3,7 +3,7 @@
 ghost use mathlib.Core.Path.{_≡_};
 ghost use Rattle.answer.specs.Answer.{numberOf, refusedFor, toldWritten};
 
-// Why a call is refused, in the order of document 01's table.
+// Why a call is refused, in the order of document 01's table and then of document 02's requests.
 pub enum Reason {
     // A length is outside the limits.
     Length,
@@ -21,10 +21,14 @@ pub enum Reason {
     NoRecord,
     // More than one written record fits.
     SeveralRecords,
+    // A log has no 1 to 586 groups, or its length does not suit them and their bits (request 2.1).
+    LogLength,
+    // A log has a spare bit, or a map of changed tracks that no reading has (request 2.1).
+    LogContent,
 }
 
 impl Reason {
-    // The number that document 01's table gives this reason.
+    // The number that document 01's table, or the request in document 02, gives this reason.
     pub fn number(self) -> u16
         ensures { λ r. ⌜ r ≡ numberOf self ⌝ }
     {
@@ -37,6 +41,8 @@ impl Reason {
             Reason::Padding => 6,
             Reason::NoRecord => 7,
             Reason::SeveralRecords => 8,
+            Reason::LogLength => 9,
+            Reason::LogContent => 10,
         }
     }
 }
@@ -47,7 +53,7 @@ pub struct Refusal {
     pub place: usize,
 }
 
-// What writing a record answers, at either density: the number of its groups or characters, or the refusal.
+// What writing a record answers, at either density, or a log: the number of its groups, characters or bytes, or the refusal.
 pub enum Written {
     Delivered(usize),
     Refused(Refusal),
