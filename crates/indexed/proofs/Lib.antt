@@ -7,6 +7,7 @@ pub mod Below
 pub mod Keep
 pub mod Front
 pub mod Blocks
+pub mod Joined
 pub mod Part
 pub mod Map
 pub mod Rule

@@ -2,8 +2,8 @@
 -- Assumes nothing.
 use mathlib.Core.Path.{_≡_, refl, sym, ap, ap₂, _∙_}
 use mathlib.Core.Bool.{Bool, cond}
-use Prim.Native.Nat.{ℕ, zero, suc, _+_, _*_, _<_}
-use native.Mathlib.Nat.{mul-zero, mul-suc, add-zero, add-suc, add-assoc, le-refl}
+use Prim.Native.Nat.{ℕ, zero, suc, _+_, _*_, _<_, _≤_}
+use native.Mathlib.Nat.{mul-zero, mul-suc, add-zero, add-suc, add-assoc, le-refl, not-suc-le-zero}
 use native.Mathlib.Decide.{decLt}
 use native.Mathlib.Omega.{arith}
 use lib.Dec.{eqb}
@@ -68,3 +68,30 @@ none-of-total (suc n) f e k h = by (decLt k n) (none-of-total n f (omega arith) 
     by : Dec (k < n) → (k < n → f k ≡ 0) → f k ≡ 0
     by (yes b) ih = ih b
     by (no b) ih = let same : k ≡ n = omega arith in rw same (omega arith)
+
+-- ---- one term among them, and a sum doubled
+
+pub total-within : (n : ℕ) (f : ℕ → ℕ) (g : ℕ) → g < n → total g f + f g ≤ total n f
+unfolding total
+total-within zero f g h = absurd (not-suc-le-zero h)
+total-within (suc n) f g h = by (decLt g n) (total-within n f g)
+  where
+    by : Dec (g < n) → (g < n → total g f + f g ≤ total n f) → total g f + f g ≤ total n f + f n
+    by (yes b) before = omega (arith, before b)
+    by (no b) before = let last : g ≡ n = omega arith in rw last (omega arith)
+
+pub total-twice : (n : ℕ) (f g : ℕ → ℕ) → ((k : ℕ) → f k ≡ 2 * g k) → total n f ≡ 2 * total n g
+unfolding total
+total-twice zero f g e = refl
+total-twice (suc n) f g e = let before = total-twice n f g e in omega (arith, before, e n)
+
+-- a sum of zeros and ones above k has a one behind k others
+pub one-of-total : (n : ℕ) (f : ℕ → ℕ) → ((g : ℕ) → f g < 2) → (k : ℕ) → k < total n f → (g : ℕ) × (g < n) × (f g ≡ 1) × (total g f ≡ k)
+unfolding total
+one-of-total zero f bits k h = absurd (not-suc-le-zero h)
+one-of-total (suc n) f bits k h = by (decLt k (total n f)) (one-of-total n f bits k)
+  where
+    by : Dec (k < total n f) → (k < total n f → (g : ℕ) × (g < n) × (f g ≡ 1) × (total g f ≡ k))
+        → (g : ℕ) × (g < suc n) × (f g ≡ 1) × (total g f ≡ k)
+    by (yes b) before = let found = before b in (found .0, omega (arith, found .1), found .2, found .3)
+    by (no b) before = (n, omega arith, omega (arith, bits n), omega (arith, bits n))

@@ -8,16 +8,17 @@ use borrow.Author.Tests.{ltb-true}
 use lib.Count.{ones}
 use lib.Dec.{leb, ltb}
 use lib.ListN.{length}
-use Rattle.indexed.specs.List.{blocks, firstBelow, total}
+use Rattle.indexed.specs.List.{tabulate, blocks, firstBelow, total}
 use Rattle.indexed.proofs.Below.{first-below-same}
 use Rattle.indexed.proofs.Blocks.{blocks-same}
+use Rattle.indexed.proofs.Tabulate.{tabulate-same}
 use Rattle.indexed.proofs.Total.{total-same}
 use Rattle.answer.specs.Answer.{Answer, delivered, refused, refusedFor}
 use Rattle.answer.specs.declared.Reason.the-variants.{Length, Space, StrayBits}
 use Rattle.rectangular.specs.Correction.{Judgement, changedMap}
 use Rattle.record6250.specs.Group.{isCorrected, reasonOf, rightBytes, rightWords}
 use Rattle.record6250.specs.Picture.{groupLent, groupRead, pictureMaps, turnedNumbers}
-use Rattle.record6250.specs.Read.{lengthsSuit, paddingSuits, unpadded, readNumbers, readGroup, readMap, judgement, changedTracks, strayAt, firstStray, firstUnfit, readBody, readData, changes, judgedAnswer, answerIf, readAnswer}
+use Rattle.record6250.specs.Read.{lengthsSuit, paddingSuits, unpadded, readNumbers, readGroup, readMap, judgement, changedTracks, strayAt, firstStray, firstUnfit, readBody, readData, changedMaps, changes, judgedAnswer, answerIf, readAnswer}
 use Rattle.record6250.specs.Tape.{strayNumbers}
 use Rattle.record6250.proofs.Answer.{length-refused}
 use Rattle.record6250.proofs.Picture.{length-maps, map-turned, length-turned, lent-turned, read-turned}
@@ -34,9 +35,9 @@ module _ (b c : Bool) (words maps words' maps' : List ℕ) (as-many : length map
   unfolding judgement
   same-judgement g h = simp (groups g h, pointers g h)
 
-  same-changed : (g : ℕ) → g < length maps → ones (changedTracks c words' maps' g) ≡ ones (changedTracks b words maps g)
+  same-changed : (g : ℕ) → g < length maps → changedTracks c words' maps' g ≡ changedTracks b words maps g
   unfolding changedTracks
-  same-changed g h = ap₂ (λ (ws : List ℕ) (j : Judgement). ones (changedMap 9 ws (rightWords j))) (groups g h) (same-judgement g h)
+  same-changed g h = ap₂ (λ (ws : List ℕ) (j : Judgement). changedMap 9 ws (rightWords j)) (groups g h) (same-judgement g h)
 
   pub same-stray : firstStray c words' maps' ≡ firstStray b words maps
   unfolding firstStray
@@ -63,7 +64,13 @@ module _ (b c : Bool) (words maps words' maps' : List ℕ) (as-many : length map
   unfolding changes
   same-changes =
       ap (λ (n : ℕ). total n (λ g. ones (changedTracks c words' maps' g))) as-many
-      ∙ total-same (length maps) _ _ same-changed
+      ∙ total-same (length maps) _ _ (λ g h. ap ones (same-changed g h))
+
+  pub same-maps : changedMaps c words' maps' ≡ changedMaps b words maps
+  unfolding changedMaps
+  same-maps =
+      ap (λ (n : ℕ). tabulate n (changedTracks c words' maps')) as-many
+      ∙ tabulate-same (length maps) _ _ same-changed
 
   pub same-answer : judgedAnswer c words' maps' ≡ judgedAnswer b words maps
   unfolding judgedAnswer readData
@@ -121,8 +128,8 @@ module _ (backward : Bool) (words maps : List ℕ) where
   suits-turned : lengthsSuit (length (turnedNumbers words)) (length turnedMaps) ≡ lengthsSuit (length words) (length maps)
   suits-turned = ap₂ lengthsSuit (length-turned words) as-many
 
-  -- whatever the lengths, the answer is the same; and so are the data, if the lengths suit
-  answer-turned : (enough : Bool) → answerIf (not backward) (turnedNumbers words) turnedMaps enough ≡ answerIf backward words maps enough
+  -- whatever the lengths, the answer is the same; and so are the data and the changed tracks, if the lengths suit
+  pub answer-turned : (enough : Bool) → answerIf (not backward) (turnedNumbers words) turnedMaps enough ≡ answerIf backward words maps enough
   unfolding answerIf
   answer-turned enough = by (lengthsSuit (length words) (length maps)) refl
     where
@@ -148,3 +155,9 @@ module _ (backward : Bool) (words maps : List ℕ) where
   turned-data e =
       let long = lengths-told (length words) (length maps) e .2 in
       same-data backward (not backward) words maps (turnedNumbers words) turnedMaps as-many (groups-turned long) pointers-turned (strays-turned long)
+
+  pub turned-changed : lengthsSuit (length words) (length maps) ≡ true
+      → changedMaps (not backward) (turnedNumbers words) turnedMaps ≡ changedMaps backward words maps
+  turned-changed e =
+      let long = lengths-told (length words) (length maps) e .2 in
+      same-maps backward (not backward) words maps (turnedNumbers words) turnedMaps as-many (groups-turned long) pointers-turned (strays-turned long)

@@ -14,15 +14,16 @@ use lib.ListN.{length, getD}
 use Rattle.answer.specs.Answer.{delivered, refused}
 use Rattle.indexed.proofs.Blocks.{length-blocks, blocks-same, cut-blocks, join-cuts}
 use Rattle.indexed.specs.Differ.{differences}
+use Rattle.indexed.proofs.Tabulate.{tabulate-same}
 use Rattle.indexed.proofs.Total.{total-same}
 use Rattle.rectangular.specs.Constants.{feedback}
-use Rattle.rectangular.specs.Correction.{Judgement, corrected}
+use Rattle.rectangular.specs.Correction.{Judgement, corrected, changedMap}
 use Rattle.rectangular.specs.Group.{group}
 use Rattle.rectangular.proofs.Equations.{Below}
-use Rattle.record6250.specs.Fits.{IsData, Passes, FitsGroup, Fits, wordsChanged}
+use Rattle.record6250.specs.Fits.{IsData, Passes, FitsGroup, Fits, wordsChanged, mapsChanged}
 use Rattle.record6250.specs.Group.{isCorrected, rightValues, rightBytes, rightWords}
 use Rattle.record6250.specs.Picture.{groupRead}
-use Rattle.record6250.specs.Read.{readGroup, readMap, judgement, changedTracks, firstUnfit, readBody, readData, changes, paddingSuits, unpadded, judgedAnswer}
+use Rattle.record6250.specs.Read.{readGroup, readMap, judgement, changedTracks, firstUnfit, readBody, readData, changedMaps, changes, paddingSuits, unpadded, judgedAnswer}
 use Rattle.record6250.specs.Record.{body, groupsFor, groupBytes, groupWords, writtenRecord}
 use Rattle.record6250.proofs.Bounded.{blocks-bounded}
 use Rattle.record6250.proofs.Cases.{ThreeCases, cases}
@@ -70,14 +71,24 @@ module _ (backward : Bool) (words maps : List ℕ) (passes : Passes backward wor
     unfolding readData
     data-read = ap unpadded body-read ∙ unpadded-body bytes
 
-    -- the words that differ, counted group by group
+    -- the words of each group that fits are those of the record
+    right-written : (g : ℕ) → g < length maps
+        → rightWords (judgement backward words maps g) ≡ groupRead false (length maps) (writtenRecord bytes) g
+    unfolding rightWords rightValues groupWords
+    right-written g h =
+        ap rightWords (judged-right g h) ∙ sym (written-group bytes (length maps) g (omega (arith, fits .as-many)))
+
+    -- so the tracks that differ are marked, and the words that differ counted, group by group
+    pub maps-changed : changedMaps backward words maps ≡ mapsChanged backward words maps bytes
+    unfolding changedMaps changedTracks mapsChanged
+    maps-changed = tabulate-same (length maps) _ _ (λ g h. ap (changedMap 9 (readGroup backward words maps g)) (right-written g h))
+
     changes-counted : changes backward words maps ≡ wordsChanged backward words maps bytes
-    unfolding changes changedTracks wordsChanged rightWords rightValues groupWords
+    unfolding changes changedTracks wordsChanged
     changes-counted =
         total-same (length maps) _ _
         (λ g h. ones-changed 9 (readGroup backward words maps g) (rightWords (judgement backward words maps g))
-        ∙ ap (λ (right : List ℕ). differences 9 (λ k. getD (readGroup backward words maps g) k 0) (λ k. getD right k 0))
-        (ap rightWords (judged-right g h) ∙ sym (written-group bytes (length maps) g (omega (arith, fits .as-many)))))
+        ∙ ap (λ (right : List ℕ). differences 9 (λ k. getD (readGroup backward words maps g) k 0) (λ k. getD right k 0)) (right-written g h))
 
     pub fits-delivered : (judgedAnswer backward words maps ≡ delivered (length bytes ∷ wordsChanged backward words maps bytes ∷ []))
         × (readData backward words maps ≡ bytes)

@@ -17,17 +17,10 @@ use Rattle.record6250.specs.Record.{groupBytes}
 use Rattle.record6250.specs.Tape.{strayNumbers}
 use Rattle.record6250.proofs.Bounded.{Bounded, take-bounded, drop-bounded}
 use Rattle.indexed.proofs.Below.{first-below-before}
+use Rattle.indexed.proofs.Test.{both-true}
 use Rattle.record6250.proofs.Tape.{words-small}
 
--- ---- tests that passed
-
-left-true : (a b : Bool) → (a && b) ≡ true → a ≡ true
-left-true true b e = refl
-left-true false b e = e
-
-right-true : (a b : Bool) → (a && b) ≡ true → b ≡ true
-right-true true b e = e
-right-true false b e = absurd (false≢true e)
+-- ---- tests that passed, or failed
 
 right-false : (a b : Bool) → (a || b) ≡ false → b ≡ false
 right-false true b e = absurd (false≢true (sym e))
@@ -40,11 +33,9 @@ left-false false b e = refl
 pub lengths-told : (n m : ℕ) → lengthsSuit n m ≡ true → (0 < m) × (m ≤ 586) × (n ≡ numbersPerGroup * m)
 unfolding lengthsSuit
 lengths-told n m e =
-    let both = left-true (ltb 0 m && leb m 586) (eqb n (numbersPerGroup * m)) e in (
-      ltb-true 0 m (left-true (ltb 0 m) (leb m 586) both),
-      leb-true m 586 (right-true (ltb 0 m) (leb m 586) both),
-      eqb-true n (numbersPerGroup * m) (right-true (ltb 0 m && leb m 586) (eqb n (numbersPerGroup * m)) e),
-    )
+    let both = both-true (ltb 0 m && leb m 586) (eqb n (numbersPerGroup * m)) e in
+    let within = both-true (ltb 0 m) (leb m 586) (both .0) in
+    (ltb-true 0 m (within .0), leb-true m 586 (within .1), eqb-true n (numbersPerGroup * m) (both .1))
 
 module _ (backward : Bool) (words maps : List ℕ) (passes : Passes backward words maps) where
   pub words-long : length words ≡ numbersPerGroup * length maps

@@ -7,9 +7,9 @@ use mathlib.Core.Path.{_≡_}
 use Prim.Native.Nat.{ℕ, _<_, _≤_}
 use lib.ListN.{length, getD}
 use Rattle.indexed.specs.Differ.{differences}
-use Rattle.indexed.specs.List.{total}
+use Rattle.indexed.specs.List.{tabulate, total}
 use Rattle.rectangular.specs.Constants.{tracks, mostData}
-use Rattle.rectangular.specs.Correction.{Allowed}
+use Rattle.rectangular.specs.Correction.{Allowed, changedMap}
 use Rattle.record6250.specs.Group.{relied}
 use Rattle.record6250.specs.Picture.{groupRead}
 use Rattle.record6250.specs.Read.{readGroup, readMap, lengthsSuit, firstStray}
@@ -44,3 +44,8 @@ module _ (backward : Bool) (words maps : List ℕ) where
   wordsChanged bytes =
       total (length maps) (λ g. differences tracks (λ k. getD (readGroup backward words maps g) k 0)
       (λ k. getD (groupRead false (length maps) (writtenRecord bytes) g) k 0))
+
+  -- and in which tracks, a map for each group: bit k is set exactly if word k differs
+  unfoldable pub mapsChanged : List ℕ → List ℕ
+  mapsChanged bytes =
+      tabulate (length maps) (λ g. changedMap tracks (readGroup backward words maps g) (groupRead false (length maps) (writtenRecord bytes) g))

@@ -14,6 +14,8 @@ use lib.Dec.{eqb, lit<}
 use lib.ListN.{getD}
 use lib.Pow.{pow-lt}
 use Rattle.indexed.specs.List.{tabulate, total}
+use Rattle.indexed.proofs.Test.{both-true}
+use Rattle.indexed.proofs.Total.{total-none, none-of-total}
 use Rattle.register.specs.Parity.{parity}
 use Rattle.register.specs.Shift.{shifts}
 use Rattle.register.specs.Sum.{xorSum}
@@ -29,27 +31,6 @@ use Rattle.cyclic.specs.Constants.{feedback, offset, tracks, checks}
 use Rattle.record800.specs.Read.{expectedParity, wrong, checkRead, errorPattern, longitudinalRead, wrongParity, wrongCount, candidate, holds}
 use Rattle.record800.specs.Record.{checkSum, writtenRecord}
 use Rattle.record800.proofs.Recorded.{written-if}
-
--- two tests that passed
-pub both-true : (a b : Bool) → a && b ≡ true → (a ≡ true) × (b ≡ true)
-both-true true b e = (refl, e)
-both-true false b e = absurd (true≢false (sym e))
-
--- ---- sums that are zero
-
-pub total-zero : (n : ℕ) (f : ℕ → ℕ) → total n f ≡ 0 → (k : ℕ) → k < n → f k ≡ 0
-unfolding total
-total-zero zero f e k h = absurd (omega arith)
-total-zero (suc n) f e k h = by (decLt k n) (total-zero n f (omega arith) k)
-  where
-    by : Dec (k < n) → (k < n → f k ≡ 0) → f k ≡ 0
-    by (yes b) ih = ih b
-    by (no b) ih = let at : k ≡ n = omega arith in let last : f n ≡ 0 = omega arith in ap f at ∙ last
-
-pub total-of-zeros : (n : ℕ) (f : ℕ → ℕ) → ((k : ℕ) → k < n → f k ≡ 0) → total n f ≡ 0
-unfolding total
-total-of-zeros zero f e = refl
-total-of-zeros (suc n) f e = omega (arith, total-of-zeros n f (λ k h. e k (omega arith)), e n (omega arith))
 
 module _ (n : ℕ) (l : List ℕ) where
   expected-lt : (k : ℕ) → expectedParity n l k < 2
@@ -73,7 +54,7 @@ module _ (n : ℕ) (l : List ℕ) where
 
   pub none-wrong : wrongCount n l ≡ 0 → (k : ℕ) → k < n + checks → wrong n l k ≡ 0
   unfolding wrongCount
-  none-wrong e = total-zero (n + checks) (wrong n l) e
+  none-wrong e = none-of-total (n + checks) (wrong n l) e
 
   pub candidate-same : wrongCount n l ≡ 0 → (j k : ℕ) → k < n + checks → candidate n l j k ≡ getD l k 0
   unfolding candidate
@@ -164,7 +145,7 @@ unfolding wrongCount candidate
 tracks-apart n l some i j h same =
     omega (
       arith,
-      total-of-zeros (n + checks) (wrong n l)
+      total-none (n + checks) (wrong n l)
           (λ k b. digit-at-both (wrong n l k) i j (wrong-lt n l k) h
           (sym (xor-cancel (getD l k 0) (wrong n l k * 2 ^ i))
           ∙ ap (λ (x : ℕ). getD l k 0 ⊕ x) (same k b)

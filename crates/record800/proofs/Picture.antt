@@ -21,7 +21,7 @@ use Rattle.slices.proofs.Or.{below-union}
 use Rattle.cyclic.specs.Constants.{mostCharacter, leastData, mostData, checks}
 use Rattle.record800.specs.Fits.{Passes}
 use Rattle.record800.specs.Read.{picture, lengthSuits, firstStray}
-use Rattle.record800.proofs.Candidate.{both-true}
+use Rattle.indexed.proofs.Test.{both-true}
 use Rattle.slices.proofs.Turned.{turned-lt, turned-twice}
 
 module _ (backward : Bool) (characters : List ℕ) where

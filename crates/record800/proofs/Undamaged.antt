@@ -23,7 +23,7 @@ use Rattle.record800.specs.Fits.{IsData, Passes, Fits, charactersChanged
 use Rattle.record800.specs.Read.{picture, expectedParity, wrong, wrongCount, judgedAnswer, readData, answerIf, readAnswer, lengthSuits, firstStray}
 use Rattle.record800.specs.Record.{writtenRecord}
 use Rattle.record800.proofs.Answer.{passed-judged}
-use Rattle.record800.proofs.Candidate.{total-of-zeros}
+use Rattle.indexed.proofs.Total.{total-none}
 use Rattle.record800.proofs.Fitting.{fits-candidate, fits-delivered, delivered-fits}
 use Rattle.record800.proofs.Recorded.{length-record, record-lt, record-parity}
 use Rattle.record800.proofs.Judged.{Judged, clean, one, several, none, judged}
@@ -71,7 +71,7 @@ module _ (bytes : List ℕ) (is-data : IsData bytes) where
   unfolding wrongCount wrong
   none-wrong =
       let many : length bytes ≡ n = omega (arith, long) in
-      total-of-zeros (n + checks) _
+      total-none (n + checks) _
       (λ k h. ap (λ (p : ℕ). p ⊕ expectedParity n l k)
       (ap parity (character k)
       ∙ record-parity bytes (is-data .are-bytes) l k (omega arith)

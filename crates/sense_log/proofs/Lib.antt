@@ -1,0 +1,6 @@
+pub mod Standing
+pub mod Bits
+pub mod Answer
+pub mod Good
+pub mod Back
+pub mod Again

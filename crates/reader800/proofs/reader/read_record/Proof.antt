@@ -12,7 +12,7 @@ use Rattle.answer.specs.Answer.{refusedFor, outputAfter}
 use Rattle.answer.specs.declared.Reason.the-variants.{StrayBits}
 use Rattle.record800.specs.Read.{readData, lengthSuits}
 use Rattle.scan800.specs.Told.{toldRead}
-use Rattle.record800.proofs.Candidate.{both-true}
+use Rattle.indexed.proofs.Test.{both-true}
 use Rattle.record800.proofs.Answer.{length-refused, space-refused, stray-refused, passed-judged, passed, length-data}
 use Rattle.reader800.proofs.Answering.{promised, refuses}
 use Rattle.reader800.proofs.Delivered.{told-data}

@@ -1,0 +1,50 @@
+-- The bit map of a written log: its length, and each group's bit in it.
+-- Assumes nothing.
+use mathlib.Core.Path.{_≡_, refl, sym, ap, _∙_}
+use mathlib.Core.List.{List, _++_}
+use Prim.Native.Nat.{ℕ, _+_, _*_, _/_, _%_, _<_, _≤_}
+use native.Mathlib.Omega.{arith}
+use lib.ListN.{length, getD, length-append, List·getD-append}
+use Rattle.indexed.specs.List.{tabulate, blocks, total}
+use Rattle.indexed.proofs.Tabulate.{length-tabulate, getD-tabulate}
+use Rattle.indexed.proofs.Joined.{length-joined}
+use Rattle.indexed.proofs.Total.{total-same, total-twice}
+use Rattle.register.specs.Bit.{bit}
+use Rattle.register.proofs.Ones.{bit-of-tabulate}
+use Rattle.sense_log.specs.Back.{groupBit, standingBits}
+use Rattle.sense_log.specs.Log.{bitMapLength, standing, bitMapByte, bitMap, mapBytes, logOf}
+use Rattle.sense_log.proofs.Standing.{standing-lt, length-mapBytes}
+
+module _ (maps : List ℕ) where
+  -- the bytes behind the bit map, of the first groups
+  abbrev pub stored : ℕ → List ℕ
+  stored n = blocks n (λ g. mapBytes (getD maps g 0))
+
+  -- the bit of group g
+  abbrev pub bitOf : ℕ → ℕ
+  bitOf g = standing (getD maps g 0)
+
+  pub length-bitMap : length (bitMap maps) ≡ bitMapLength (length maps)
+  unfolding bitMap
+  length-bitMap = length-tabulate (bitMapLength (length maps)) (bitMapByte maps)
+
+  pub length-stored : (n : ℕ) → length (stored n) ≡ 2 * total n bitOf
+  length-stored n =
+      length-joined n (λ g. mapBytes (getD maps g 0)) ∙ total-twice n _ bitOf (λ g. length-mapBytes (getD maps g 0))
+
+  pub length-log : length (logOf maps) ≡ bitMapLength (length maps) + 2 * total (length maps) bitOf
+  unfolding logOf
+  length-log = omega (arith, length-append (bitMap maps) (stored (length maps)), length-bitMap, length-stored (length maps))
+
+  pub bit-written : (g : ℕ) → g < 8 * bitMapLength (length maps) → groupBit (logOf maps) g ≡ bitOf g
+  unfolding groupBit logOf bitMap bitMapByte
+  bit-written g h =
+      ap (bit (g % 8))
+      (List·getD-append (bitMap maps) (stored (length maps)) 0 (g / 8) (omega (arith, length-bitMap))
+      ∙ getD-tabulate (bitMapLength (length maps)) (bitMapByte maps) (g / 8) 0 (omega arith))
+      ∙ bit-of-tabulate 8 (λ i. bitOf (8 * (g / 8) + i)) (λ i b. standing-lt (getD maps (8 * (g / 8) + i) 0)) (g % 8) (omega arith)
+      ∙ ap bitOf (omega arith)
+
+  pub bits-written : (n : ℕ) → n ≤ length maps → standingBits (logOf maps) n ≡ total n bitOf
+  unfolding standingBits
+  bits-written n h = total-same n _ _ (λ g b. bit-written g (omega arith))
