@@ -4,3 +4,4 @@ pub mod Answer
 pub mod Good
 pub mod Back
 pub mod Again
+pub mod Written
