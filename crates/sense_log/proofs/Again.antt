@@ -13,12 +13,13 @@ use lib.ListN.{length, getD, take, drop, length-drop, take-append-drop, List·ge
 use lib.Seq.{getD-drop, getD-take, length-take-le, take-add, take-all}
 use Rattle.indexed.specs.List.{tabulate, blocks, total}
 use Rattle.indexed.proofs.Blocks.{blocks-same}
-use Rattle.indexed.proofs.Tabulate.{length-tabulate, getD-tabulate, tabulate-same, tabulate-getD}
+use Rattle.indexed.proofs.Tabulate.{getD-tabulate, tabulate-same, tabulate-getD}
 use Rattle.indexed.proofs.Total.{total-within}
 use Rattle.register.specs.Bit.{bit, bitsOf, ofBits}
 use Rattle.register.proofs.Bit.{bit-lt, ofBits-bitsOf}
 use Rattle.sense_log.specs.Back.{groupBit, standingBits, lengthSuits, contentSuits, storedMap, mapBack, mapsOf}
 use Rattle.sense_log.specs.Log.{bitMapLength, standing, bitMapByte, bitMap, mapBytes, logOf}
+use Rattle.sense_log.proofs.Back.{length-mapsOf}
 use Rattle.sense_log.proofs.Good.{length-told, spare-told, maps-told, content-told}
 use Rattle.sense_log.proofs.Standing.{standing-none, standing-some, no-bytes, two-bytes}
 
@@ -42,8 +43,7 @@ module _ (groups : ℕ) (log : List ℕ) (bytes : (k : ℕ) → getD log k 0 < 2
   long = length-told groups log suits .2
 
   as-many : length maps ≡ groups
-  unfolding mapsOf
-  as-many = length-tabulate groups (mapBack groups log)
+  as-many = length-mapsOf groups log
 
   map-of : (g : ℕ) → g < groups → getD maps g 0 ≡ mapBack groups log g
   unfolding mapsOf

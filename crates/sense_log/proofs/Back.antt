@@ -12,7 +12,7 @@ use lib.ListN.{length, getD, List·getD-eq-default}
 use lib.Seq.{getD-append-add}
 use Rattle.indexed.specs.List.{tabulate, total}
 use Rattle.indexed.proofs.Joined.{getD-joined}
-use Rattle.indexed.proofs.Tabulate.{tabulate-same, tabulate-getD}
+use Rattle.indexed.proofs.Tabulate.{length-tabulate, tabulate-same, tabulate-getD}
 use Rattle.indexed.proofs.Total.{one-of-total}
 use Rattle.answer.specs.Answer.{delivered}
 use Rattle.sense_log.specs.Back.{groupBit, standingBits, lengthSuits, contentSuits, storedMap, mapBack, mapsOf, readLogAnswer}
@@ -21,6 +21,11 @@ use Rattle.sense_log.proofs.Answer.{back-all}
 use Rattle.sense_log.proofs.Bits.{stored, bitOf, length-bitMap, length-stored, length-log, bit-written, bits-written}
 use Rattle.sense_log.proofs.Good.{length-suits, spare-clear, maps-suit, content-suits}
 use Rattle.sense_log.proofs.Standing.{standing-none, standing-some, standing-lt, nothing-stands, two-bytes}
+
+-- there is a map for each group
+pub length-mapsOf : (groups : ℕ) (log : List ℕ) → length (mapsOf groups log) ≡ groups
+unfolding mapsOf
+length-mapsOf groups log = length-tabulate groups (mapBack groups log)
 
 module _ (maps : List ℕ) where
   abbrev log : List ℕ

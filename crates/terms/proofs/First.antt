@@ -11,7 +11,7 @@ use lib.Dec.{eqb, leb, ltb}
 use lib.ListN.{length}
 use Rattle.answer.specs.Answer.{Answer, delivered, refusedFor, outputAfter}
 use Rattle.slices.specs.Above.{firstAbove}
-use Rattle.answer.specs.declared.Reason.the-variants.{Length, Space, StrayBits, Padding, NoRecord, SeveralRecords}
+use Rattle.answer.specs.declared.Reason.the-variants.{Length, Space, StrayBits, Padding, NoRecord, SeveralRecords, LogLength, LogContent}
 use Rattle.answer.proofs.Listed.{Listed, listed-delivery, listed-at, listed-refusal, listed-choice}
 use Rattle.answer.proofs.Passed.{test-held}
 use Rattle.record6250.proofs.Answer as sixAnswer
@@ -26,9 +26,15 @@ use Rattle.record800.specs.Read as eight
 use Rattle.record800.specs.Written as eightWritten
 use Rattle.rectangular.specs.Constants as sixConstants
 use Rattle.cyclic.specs.Constants as eightConstants
+use Rattle.sense_log.proofs.Answer.{back-delivered}
+use Rattle.sense_log.proofs.Back.{length-mapsOf}
+use Rattle.sense_log.proofs.Written.{log-passed, reading-log-within}
+use Rattle.sense_log.specs.Back.{lengthSuits, contentSuits, readLogAnswer}
+use Rattle.sense_log.specs.Log.{logSpace}
+use Rattle.sense_log.specs.Written.{logged, logAnswer}
 use Rattle.track_order.proofs.Order.{length-arranged}
 use Rattle.track_order.specs.Moved.{wordsAnswer, mapAnswer}
-use Rattle.terms.specs.Call.{Call, write, read, moveWords, moveMap, answerTo, resultOf, places}
+use Rattle.terms.specs.Call.{Call, write, read, log, readLog, moveWords, moveMap, answerTo, resultOf, places}
 use Rattle.terms.specs.Reading.{bpi6250, bpi800, Reading, at6250, at800, Enough, Passes, Fits, writtenRecord, readAnswer, readData}
 use Rattle.terms.specs.Terms.{FirstTerm}
 use Rattle.terms.proofs.Third.{one-delivered, delivered-passes, delivered-one}
@@ -71,15 +77,39 @@ listed-800 bound n characters =
     (λ t. listed-choice bound (eight.holds n characters 0) _ _ (λ h. listed-delivery bound _) (λ h. listed-refusal bound NoRecord))
     (λ t. listed-one-of bound n characters _)
 
-listed-read : (r : Reading) (space : ℕ) → Listed (places (read r)) (readAnswer r space)
-unfolding readAnswer places six.readAnswer six.answerIf eight.readAnswer eight.answerIf
-listed-read (at6250 backward words maps) space =
-    first-rows (length maps) (six.lengthsSuit (length words) (length maps)) (leb (7 * length maps - 1) space) _
+-- whatever space is asked for
+listed-if : (backward : Bool) (words maps : List ℕ) (enough : Bool) → Listed (length maps) (six.answerIf backward words maps enough)
+unfolding six.answerIf
+listed-if backward words maps enough =
+    first-rows (length maps) (six.lengthsSuit (length words) (length maps)) enough _
     (λ s. third-row (length maps) (six.firstStray backward words maps) (length maps) (omega arith) _ (listed-6250 backward words maps))
+
+listed-read : (r : Reading) (space : ℕ) → Listed (places (read r)) (readAnswer r space)
+unfolding readAnswer places six.readAnswer eight.readAnswer eight.answerIf
+listed-read (at6250 backward words maps) space = listed-if backward words maps (leb (7 * length maps - 1) space)
 listed-read (at800 backward characters) space =
     first-rows (length characters) (eight.lengthSuits (length characters)) (leb (length characters - 2) space) _
     (λ s. third-row (length characters) (eight.firstStray backward characters) (length characters) (omega arith) _
     (listed-800 (length characters) (length characters - 2) (eight.picture backward characters)))
+
+-- a log keeps the refusal of its reading, and reading one back has three of its own
+listed-logged : (bound : ℕ) (bytes : List ℕ) (answer : Answer) → Listed bound answer → Listed bound (logged bytes answer)
+unfolding logged
+listed-logged bound bytes (Answer.delivered figures) listed = listed-delivery bound _
+listed-logged bound bytes (Answer.refused number place) listed = listed
+
+listed-log : (backward : Bool) (words maps : List ℕ) (space : ℕ) → Listed (length maps) (logAnswer backward words maps space)
+unfolding logAnswer
+listed-log backward words maps space = listed-logged (length maps) _ _ (listed-if backward words maps (leb (logSpace (length maps)) space))
+
+listed-back : (groups : ℕ) (bytes : List ℕ) (space : ℕ) → Listed 0 (readLogAnswer groups bytes space)
+unfolding readLogAnswer
+listed-back groups bytes space =
+    listed-choice 0 (leb groups space) _ _
+    (λ room. listed-choice 0 (lengthSuits groups bytes) _ _
+    (λ suits. listed-choice 0 (contentSuits groups bytes) _ _ (λ good. listed-delivery 0 []) (λ bad. listed-refusal 0 LogContent))
+    (λ short. listed-refusal 0 LogLength))
+    (λ full. listed-refusal 0 Space)
 
 listed-words : (source : List ℕ) (space : ℕ) → Listed (length source) (wordsAnswer source space)
 unfolding wordsAnswer
@@ -98,6 +128,8 @@ listed-answer (write bpi6250 bytes) space =
 listed-answer (write bpi800 bytes) space =
     first-rows 0 (leb 1 (length bytes) && leb (length bytes) eightConstants.mostData) (leb (length bytes + 2) space) _ (λ s. listed-delivery 0 _)
 listed-answer (read r) space = listed-read r space
+listed-answer (log backward words maps) space = listed-log backward words maps space
+listed-answer (readLog groups bytes) space = listed-back groups bytes space
 listed-answer (moveWords way source) space = listed-words source space
 listed-answer (moveMap way m) space = listed-map _ m
 
@@ -127,6 +159,10 @@ result-within (write bpi6250 bytes) space figures e =
 result-within (write bpi800 bytes) space figures e =
     omega (arith, eightRecord.length-record bytes, eightAnswer.written-passed (length bytes) space figures e .1)
 result-within (read r) space figures e = read-within r space figures e
+result-within (log backward words maps) space figures e =
+    omega (arith, reading-log-within backward words maps, log-passed backward words maps space figures e .1)
+result-within (readLog groups bytes) space figures e =
+    omega (arith, length-mapsOf groups bytes, back-delivered groups bytes space figures e .0)
 result-within (moveWords way source) space figures e = omega (arith, length-arranged way source, words-within source space figures e)
 result-within (moveMap way m) space figures e = omega arith
 

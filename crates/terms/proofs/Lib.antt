@@ -1,4 +1,5 @@
 pub mod Third
+pub mod Logged
 pub mod Second
 pub mod First
 pub mod Terms

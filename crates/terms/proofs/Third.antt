@@ -12,7 +12,7 @@ use Rattle.record6250.specs.Read as sixRead
 use Rattle.record800.proofs.Answer as eightAnswer
 use Rattle.record800.proofs.Fitting as eightFitting
 use Rattle.terms.specs.Reading.{Reading, at6250, at800, Enough, Passes, Fits, OneFits, told, readAnswer, readData}
-use Rattle.terms.specs.Terms.{Refused, Decides}
+use Rattle.terms.specs.Terms.{Refused, Decides, DecidesRead}
 
 -- the one record that fits is delivered
 pub one-delivered : (r : Reading) (space : ℕ) → Passes r space → (bytes : List ℕ) → OneFits r bytes
@@ -58,23 +58,32 @@ pub output-of : (answer : Answer) (figures result before after : List ℕ) → a
 unfolding outputAfter
 output-of answer figures result before after d e = e ∙ ap (λ (a : Answer). outputAfter a result before) d
 
--- the third term, of any answer and output that are the reader's
+-- the third term, of any answer and output: if the one record that fits makes the answer, and the result, and a delivery has one
+module _ (r : Reading) (tells stores : List ℕ → List ℕ) (answer : Answer) (result before after : List ℕ)
+    (output : after ≡ outputAfter answer result before)
+    (delivers : (bytes : List ℕ) → OneFits r bytes → (answer ≡ delivered (tells bytes)) × (result ≡ stores bytes))
+    (has-one : (figures : List ℕ) → answer ≡ delivered figures → (bytes : List ℕ) × OneFits r bytes) where
+  pub decides : Decides r tells stores answer before after
+  decides = record {
+    delivered-if-one = λ bytes one.
+        let d = delivers bytes one in (
+          d .0,
+          output-of answer (tells bytes) result before after (d .0) output ∙ ap (λ (l : List ℕ). l ++ drop (length l) before) (d .1),
+        );
+    one-if-delivered = has-one;
+    refused-if-none = λ none.
+        refused-unless answer result before after output (λ figures e. let one = has-one figures e in none (one .0) (one .1 .fits));
+    refused-if-several = λ one another f g apart.
+        refused-unless answer result before after output
+        (λ figures e. let only = has-one figures e .1 .only in apart (only one f ∙ sym (only another g)));
+  }
+
+-- of any answer and output that are the reader's
 module _ (r : Reading) (answer : Answer) (before after : List ℕ) (answers : answer ≡ readAnswer r (length before))
     (stores : after ≡ outputAfter answer (readData r) before) where
-  pub decides : Passes r (length before) → Decides r answer before after
-  decides passes = record {
-    delivered-if-one = λ bytes one.
-        let d = one-delivered r (length before) passes bytes one in
-        let told-is = answers ∙ d .0 in (
-          told-is,
-          output-of answer (told r bytes) (readData r) before after told-is stores
-              ∙ ap (λ (l : List ℕ). l ++ drop (length l) before) (d .1),
-        );
-    one-if-delivered = λ figures e. delivered-one r (length before) figures (sym answers ∙ e);
-    refused-if-none = λ none.
-        refused-unless answer (readData r) before after stores
-        (λ figures e. let one = delivered-one r (length before) figures (sym answers ∙ e) in none (one .0) (one .1 .fits));
-    refused-if-several = λ one another f g apart.
-        refused-unless answer (readData r) before after stores
-        (λ figures e. let only = delivered-one r (length before) figures (sym answers ∙ e) .1 .only in apart (only one f ∙ sym (only another g)));
-  }
+  pub read-decides : Passes r (length before) → DecidesRead r answer before after
+  unfolding DecidesRead
+  read-decides passes =
+      decides r (told r) (λ bytes. bytes) answer (readData r) before after stores
+      (λ bytes one. let d = one-delivered r (length before) passes bytes one in (answers ∙ d .0, d .1))
+      (λ figures e. delivered-one r (length before) figures (sym answers ∙ e))

@@ -1,22 +1,32 @@
 -- The notice's three terms. Each is a relation between a call, the answer that was given, and the output as it stood before the call and
 -- stands after it. The contracts of the calls say that they hold; here they speak of calls, readings and written records only.
 -- Assumes nothing.
-use mathlib.Core.Bool.{Bool, false}
-use mathlib.Core.List.{List, _++_, List·Memᴰ}
+use mathlib.Core.Bool.{Bool, true, false, cond, not}
+use mathlib.Core.List.{List, [], _∷_, _++_, List·Memᴰ}
 use mathlib.Core.Logic.{_⊎_}
 use mathlib.Core.Path.{_≡_}
 use Prim.{Unit}
 use Prim.Native.Nat.{ℕ, _*_, _<_, _≤_}
+use lib.Dec.{eqb}
 use lib.ListN.{length, getD, take, drop}
 use Rattle.answer.specs.Answer.{Answer, delivered, refused, refusals, outputAfter}
-use Rattle.rectangular.specs.Constants.{numbersPerGroup}
-use Rattle.terms.specs.Call.{Call, write, read, moveWords, moveMap, resultOf, places}
-use Rattle.terms.specs.Reading.{Density, bpi6250, bpi800, Reading, density, isBackward, received, IsData, writtenRecord, turned, undamaged, Enough, Passes, Fits, OneFits, told, unchanged, lengthTold, changesTold, readAnswer, readData}
+use Rattle.rectangular.specs.Constants.{tracks, numbersPerGroup}
+use Rattle.record6250.specs.Fits as six
+use Rattle.record6250.specs.Fits.{mapsChanged}
+use Rattle.record6250.specs.Picture.{groupRead, pictureMaps, turnedNumbers}
+use Rattle.record6250.specs.Read.{readGroup, changedMaps}
+use Rattle.register.specs.Bit.{bit}
+use Rattle.sense_log.specs.Back.{readLogAnswer, mapsOf}
+use Rattle.sense_log.specs.Log.{logSpace, logOf}
+use Rattle.sense_log.specs.Written.{logAnswer, readingLog}
+use Rattle.terms.specs.Call.{Call, write, read, log, readLog, moveWords, moveMap, resultOf, places}
+use Rattle.terms.specs.Reading.{Density, bpi6250, bpi800, Reading, at6250, density, isBackward, received, IsData, writtenRecord, turned, undamaged, Enough, Passes, Fits, OneFits, told, unchanged, lengthTold, changesTold, readAnswer, readData}
 
 -- ---- the first term
 
 -- "If a call brings words, characters, pointer maps or lengths of any kind, it ends in a delivery or in one of eight refusals with a
--- number and a place. A refusal changes nothing in the lent output. A delivery writes its result at the front and nothing behind it."
+-- number and a place. A refusal changes nothing in the lent output. A delivery writes its result at the front and nothing behind it." The
+-- numbers of document 02's requests "join the first term's eight".
 unfoldable pub FirstTerm : Call → Answer → List ℕ → List ℕ → Type 0
 FirstTerm call (delivered figures) before after =
     (length (resultOf call) ≤ length before) × (after ≡ resultOf call ++ drop (length (resultOf call)) before)
@@ -50,9 +60,25 @@ pub record Reads (r : Reading) (answer : Answer) (before after : List ℕ) : Typ
       → IsData (density r) (take (lengthTold figures) after) × (writtenRecord (density r) (take (lengthTold figures) after) ≡ received r)
   pub as-turned : (answer ≡ readAnswer (turned r) (length before)) × (after ≡ outputAfter answer (readData (turned r)) before)
 
+-- Of a log that is written (document 02, request 2.1): what is stored, read back, is delivered with the maps of the reading's changed
+-- tracks, and a backward reading's log is that of the same turned forward.
+pub record Logs (backward : Bool) (words maps : List ℕ) (answer : Answer) (before after : List ℕ) : Type 0 where
+  pub reads-back : (figures : List ℕ) → answer ≡ delivered figures → (space : ℕ) → length maps ≤ space
+      → (readLogAnswer (length maps) (take (lengthTold figures) after) space ≡ delivered [])
+      × (mapsOf (length maps) (take (lengthTold figures) after) ≡ changedMaps backward words maps)
+  pub as-turned : (answer ≡ logAnswer (not backward) (turnedNumbers words) (pictureMaps true maps) (length before))
+      × (after ≡ outputAfter answer (readingLog (not backward) (turnedNumbers words) (pictureMaps true maps)) before)
+
+-- Of one that is read back: writing the maps that are delivered gives the log, so that one set of changes has one log.
+unfoldable pub LogsAgain : ℕ → List ℕ → Answer → List ℕ → Type 0
+LogsAgain groups bytes answer after =
+    ((k : ℕ) → getD bytes k 0 < 256) → (figures : List ℕ) → answer ≡ delivered figures → logOf (take groups after) ≡ bytes
+
 unfoldable pub SecondTerm : Call → Answer → List ℕ → List ℕ → Type 0
 SecondTerm (write d bytes) answer before after = Writes d bytes answer before after
 SecondTerm (read r) answer before after = Reads r answer before after
+SecondTerm (log backward words maps) answer before after = Logs backward words maps answer before after
+SecondTerm (readLog groups bytes) answer before after = LogsAgain groups bytes answer after
 SecondTerm (moveWords way source) answer before after = Unit
 SecondTerm (moveMap way m) answer before after = Unit
 
@@ -63,17 +89,35 @@ unfoldable pub Refused : Answer → List ℕ → List ℕ → Type 0
 Refused answer before after = (number : ℕ) × (place : ℕ) × (answer ≡ refused number place) × (after ≡ before)
 
 -- "A reading is delivered exactly when exactly one written record fits it, and refused if none or several do. Nobody can get another
--- record delivered than that one: its data are given, with their length, and the changes told are the reading's differences from it."
-pub record Decides (r : Reading) (answer : Answer) (before after : List ℕ) : Type 0 where
-  pub delivered-if-one : (bytes : List ℕ) → OneFits r bytes → (answer ≡ delivered (told r bytes)) × (after ≡ bytes ++ drop (length bytes) before)
+-- record delivered than that one": what is told and what is stored are made of its data.
+pub record Decides (r : Reading) (tells stores : List ℕ → List ℕ) (answer : Answer) (before after : List ℕ) : Type 0 where
+  pub delivered-if-one : (bytes : List ℕ) → OneFits r bytes
+      → (answer ≡ delivered (tells bytes)) × (after ≡ stores bytes ++ drop (length (stores bytes)) before)
   pub one-if-delivered : (figures : List ℕ) → answer ≡ delivered figures → (bytes : List ℕ) × OneFits r bytes
   pub refused-if-none : ((bytes : List ℕ) → Fits r bytes → ⊥) → Refused answer before after
   pub refused-if-several : (one another : List ℕ) → Fits r one → Fits r another → (one ≡ another → ⊥) → Refused answer before after
 
+-- Of a reader: "its data are given, with their length, and the changes told are the reading's differences from it."
+unfoldable pub DecidesRead : Reading → Answer → List ℕ → List ℕ → Type 0
+DecidesRead r answer before after = Decides r (told r) (λ bytes. bytes) answer before after
+
+-- Of a log: it is that of the reading's differences from the one record that fits. Read back, group g's map has bit k exactly if word k of
+-- group g of the reading differs from that record.
+pub record DecidesLog (backward : Bool) (words maps : List ℕ) (answer : Answer) (before after : List ℕ) : Type 0 where
+  pub decided : Decides (at6250 backward words maps) (λ bytes. length (logOf (mapsChanged backward words maps bytes)) ∷ [])
+      (λ bytes. logOf (mapsChanged backward words maps bytes)) answer before after
+  pub marked : (bytes figures : List ℕ) → Fits (at6250 backward words maps) bytes → answer ≡ delivered figures
+      → (g k : ℕ) → g < length maps → k < tracks
+      → bit k (getD (mapsOf (length maps) (take (lengthTold figures) after)) g 0)
+      ≡ cond (eqb (getD (readGroup backward words maps g) k 0) (getD (groupRead false (length maps) (writtenRecord bpi6250 bytes) g) k 0)) 0 1
+
 -- "once lengths, space and stray bits have passed"
 unfoldable pub ThirdTerm : Call → Answer → List ℕ → List ℕ → Type 0
 ThirdTerm (write d bytes) answer before after = Unit
-ThirdTerm (read r) answer before after = Passes r (length before) → Decides r answer before after
+ThirdTerm (read r) answer before after = Passes r (length before) → DecidesRead r answer before after
+ThirdTerm (log backward words maps) answer before after =
+    six.Passes backward words maps → logSpace (length maps) ≤ length before → DecidesLog backward words maps answer before after
+ThirdTerm (readLog groups bytes) answer before after = Unit
 ThirdTerm (moveWords way source) answer before after = Unit
 ThirdTerm (moveMap way m) answer before after = Unit
 
