@@ -2,6 +2,7 @@
 use answer::Reason;
 use rectangular::Code6250;
 use scan6250::Read;
+use scan6250::SHORT;
 use scan6250::judge_record;
 use scan6250::lengths_suit;
 use scan6250::refused;
@@ -19,9 +20,6 @@ ghost use Rattle.reader6250.specs.Told.{lengthTold};
 ghost use Rattle.terms.specs.Call as Call;
 ghost use Rattle.terms.specs.Reading.{at6250};
 ghost use Rattle.terms.specs.Terms.{Terms};
-
-// A record of so few groups is short.
-const SHORT: usize = 64;
 
 // The length of the data that a reading delivers; a refusal delivers none.
 fn data_length(read: Read) -> usize
@@ -64,8 +62,7 @@ fn read_within(
     read
 }
 
-// Reads a record whose lengths and space suit, into arrays of its own. A short record takes small ones, since an array is
-// cleared.
+// Reads a record whose lengths and space suit, into arrays of its own; a short record takes small ones.
 fn read_sized(words: &[u16], maps: &[u16], backward: bool, table: &[u16], output: &mut [u8]) -> Read
     requires { ⌜ (lengthsSuit (length (now words)) (length (now maps)) ≡ true) × (spaceFor (length (now maps)) ≤ length (now output)) × (now table ≡ readings backward) ⌝ }
     ensures answer { λ r. ⌜ toldRead r ≡ answerIf backward (now (words .entry)) (now (maps .entry)) true ⌝ }

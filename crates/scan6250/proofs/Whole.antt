@@ -8,12 +8,9 @@ use mathlib.Core.Logic.{inl, inr}
 use Prim.Native.Nat.{ℕ, _-_, _*_, _≤_}
 use native.Mathlib.Nat.{le-of-eq}
 use native.Mathlib.Omega.{arith}
-use lib.Count.{ones}
-use lib.ListN.{length, getD, take, drop, length-append}
+use lib.ListN.{length, take, drop, length-append}
 use lib.Seq.{length-take-le, take-append-le, take-at}
-use Rattle.indexed.specs.List.{total}
-use Rattle.indexed.proofs.Tabulate.{length-tabulate, getD-tabulate}
-use Rattle.indexed.proofs.Total.{total-same}
+use Rattle.indexed.proofs.Tabulate.{length-tabulate}
 use Rattle.answer.specs.Answer.{delivered}
 use Rattle.answer.proofs.Apart.{not-both}
 use Rattle.record6250.specs.Fits.{Passes}
@@ -70,13 +67,17 @@ module _ (backward : Bool) (words maps : List ℕ) (figures : List ℕ) (is-deli
         ∙ ap (λ (n : ℕ). take n body) long
 
     -- and the maps of the tracks that are changed, in front of theirs
-    pub maps-in-front : take (length maps) (mapsGathered backward words maps (reached backward words maps) before) ≡ changedMaps backward words maps
+    all-maps : mapsGathered backward words maps (reached backward words maps) before ≡ changedMaps backward words maps ++ drop (length maps) before
     unfolding mapsGathered changedMaps
-    maps-in-front =
-        ap (λ (n : ℕ). take (length maps) (mapsGathered backward words maps n before)) (reached-unfit backward words maps late ∙ both .0)
-        ∙ take-at (changedMaps backward words maps) (drop (length maps) before) (length maps) (length-tabulate (length maps) _)
+    all-maps = ap (λ (n : ℕ). mapsGathered backward words maps n before) (reached-unfit backward words maps late ∙ both .0)
 
-  -- whose ones are the changes told
-  pub changes-are : changes backward words maps ≡ total (length maps) (λ g. ones (getD (changedMaps backward words maps) g 0))
-  unfolding changes changedMaps
-  changes-are = total-same (length maps) _ _ (λ g h. ap ones (sym (getD-tabulate (length maps) _ g 0 h)))
+    long : length (changedMaps backward words maps) ≡ length maps
+    unfolding changedMaps
+    long = length-tabulate (length maps) _
+
+    pub maps-within : length maps ≤ length (mapsGathered backward words maps (reached backward words maps) before)
+    maps-within = rw all-maps (omega (arith, long, length-append (changedMaps backward words maps) (drop (length maps) before)))
+
+    pub maps-in-front : take (length maps) (mapsGathered backward words maps (reached backward words maps) before) ≡ changedMaps backward words maps
+    maps-in-front =
+        ap (take (length maps)) all-maps ∙ take-at (changedMaps backward words maps) (drop (length maps) before) (length maps) long

@@ -10,6 +10,9 @@ pub use judge::judge_record;
 pub use judge::lengths_suit;
 pub use judge::refused;
 
+// A record of so few groups is short: who judges one lends it small arrays, since an array is cleared.
+pub const SHORT: usize = 64;
+
 // The figures of a delivery: the data's length, and how many words of the reading differ from the record.
 pub struct Figures {
     pub length: usize,

@@ -2,7 +2,7 @@
 -- Assumes nothing.
 use mathlib.Core.Path.{_≡_, refl, sym, ap, _∙_}
 use mathlib.Core.List.{List, _++_}
-use Prim.Native.Nat.{ℕ, _+_, _*_, _/_, _%_, _<_, _≤_}
+use Prim.Native.Nat.{ℕ, zero, suc, _+_, _*_, _/_, _%_, _<_, _≤_}
 use native.Mathlib.Omega.{arith}
 use lib.ListN.{length, getD, length-append, List·getD-append}
 use Rattle.indexed.specs.List.{tabulate, blocks, total}
@@ -48,3 +48,8 @@ module _ (maps : List ℕ) where
   pub bits-written : (n : ℕ) → n ≤ length maps → standingBits (logOf maps) n ≡ total n bitOf
   unfolding standingBits
   bits-written n h = total-same n _ _ (λ g b. bit-written g (omega arith))
+
+  pub bits-below : (n : ℕ) → total n bitOf ≤ n
+  unfolding total
+  bits-below zero = omega arith
+  bits-below (suc n) = omega (arith, bits-below n, standing-lt (getD maps n 0))

@@ -4,7 +4,7 @@
 use mathlib.Core.Path.{_≡_, refl, sym, ap, ap₂, _∙_}
 use mathlib.Core.Bool.{Bool, true, false, not}
 use mathlib.Core.List.{List, [], _∷_}
-use Prim.Native.Nat.{ℕ, zero, suc, _+_, _*_, _<_, _≤_}
+use Prim.Native.Nat.{ℕ, _+_, _*_, _<_, _≤_}
 use native.Mathlib.Omega.{arith}
 use lib.Count.{ones}
 use lib.Dec.{leb}
@@ -28,28 +28,20 @@ use Rattle.sense_log.specs.Back.{mapsOf, readLogAnswer}
 use Rattle.sense_log.specs.Log.{bitMapLength, logSpace, standing, logOf, marks}
 use Rattle.sense_log.specs.Written.{logged, readingLog, logAnswer}
 use Rattle.sense_log.proofs.Back.{maps-back, log-delivered}
-use Rattle.sense_log.proofs.Bits.{bitOf, length-log}
-use Rattle.sense_log.proofs.Standing.{standing-lt}
+use Rattle.sense_log.proofs.Bits.{length-log, bits-below}
 
 -- a log has space where there are two bytes for every group
 pub log-within : (maps : List ℕ) → length (logOf maps) ≤ logSpace (length maps)
-unfolding total
-log-within maps = omega (arith, length-log maps, below (length maps))
-  where
-    below : (n : ℕ) → total n (bitOf maps) ≤ n
-    below zero = omega arith
-    below (suc n) = omega (arith, below n, standing-lt (getD maps n 0))
+log-within maps = omega (arith, length-log maps, bits-below maps (length maps))
 
 -- the answer for a reading that is delivered, and for one that is refused
-pub logged-delivered : (log : List ℕ) (answer : Answer) (figures : List ℕ) → logged log answer ≡ delivered figures
-    → (figures ≡ length log ∷ []) × ((told : List ℕ) × (answer ≡ delivered told))
-unfolding logged
-logged-delivered log (delivered told) figures e = (cc, (told, refl))
-logged-delivered log (refused number place) figures e = absurd (not-both figures number place (sym e))
+pub logged-delivered : (size : ℕ) (answer : Answer) (figures : List ℕ) → logged size answer ≡ delivered figures
+    → (figures ≡ size ∷ []) × ((told : List ℕ) × (answer ≡ delivered told))
+logged-delivered size (delivered told) figures e = (cc, (told, refl))
+logged-delivered size (refused number place) figures e = absurd (not-both figures number place (sym e))
 
-pub logged-refused : (log other : List ℕ) (answer : Answer) (number place : ℕ) → answer ≡ refused number place → logged log answer ≡ logged other answer
-unfolding logged
-logged-refused log other answer number place e = ap (logged log) e ∙ sym (ap (logged other) e)
+pub logged-refused : (size other : ℕ) (answer : Answer) (number place : ℕ) → answer ≡ refused number place → logged size answer ≡ logged other answer
+logged-refused size other answer number place e = ap (logged size) e ∙ sym (ap (logged other) e)
 
 module _ (backward : Bool) (words maps : List ℕ) where
   pub length-changed : length (changedMaps backward words maps) ≡ length maps
@@ -77,7 +69,7 @@ module _ (backward : Bool) (words maps : List ℕ) where
       → Passes backward words maps × (logSpace (length maps) ≤ space) × (figures ≡ length (readingLog backward words maps) ∷ [])
   unfolding logAnswer
   log-passed space figures e =
-      let told = logged-delivered (readingLog backward words maps) (answerIf backward words maps (leb (logSpace (length maps)) space)) figures e in
+      let told = logged-delivered (length (readingLog backward words maps)) (answerIf backward words maps (leb (logSpace (length maps)) space)) figures e in
       let passed = delivered-if backward words maps (leb (logSpace (length maps)) space) (told .1 .0) (told .1 .1) in
       (passed .0, leb-true (logSpace (length maps)) space (passed .1), told .0)
 
@@ -112,7 +104,7 @@ module _ (backward : Bool) (words maps : List ℕ) where
       → logAnswer (not backward) (turnedNumbers words) (pictureMaps true maps) space ≡ logAnswer backward words maps space
   unfolding logAnswer
   log-answer-turned space =
-      ap (logged (readingLog (not backward) (turnedNumbers words) (pictureMaps true maps)))
+      ap (logged (length (readingLog (not backward) (turnedNumbers words) (pictureMaps true maps))))
       (ap (λ (n : ℕ). answerIf (not backward) (turnedNumbers words) (pictureMaps true maps) (leb (logSpace n) space)) (length-maps true maps)
       ∙ answer-turned backward words maps enough)
       ∙ by (lengthsSuit (length words) (length maps)) refl
@@ -121,10 +113,10 @@ module _ (backward : Bool) (words maps : List ℕ) where
       enough = leb (logSpace (length maps)) space
 
       by : (b : Bool) → lengthsSuit (length words) (length maps) ≡ b
-          → logged (readingLog (not backward) (turnedNumbers words) (pictureMaps true maps)) (answerIf backward words maps enough)
-          ≡ logged (readingLog backward words maps) (answerIf backward words maps enough)
-      by true e = ap (λ (l : List ℕ). logged l (answerIf backward words maps enough)) (log-turned e)
+          → logged (length (readingLog (not backward) (turnedNumbers words) (pictureMaps true maps))) (answerIf backward words maps enough)
+          ≡ logged (length (readingLog backward words maps)) (answerIf backward words maps enough)
+      by true e = ap (λ (l : List ℕ). logged (length l) (answerIf backward words maps enough)) (log-turned e)
       by false e =
           let short = length-refused backward words maps enough e in
-          logged-refused (readingLog (not backward) (turnedNumbers words) (pictureMaps true maps)) (readingLog backward words maps)
+          logged-refused (length (readingLog (not backward) (turnedNumbers words) (pictureMaps true maps))) (length (readingLog backward words maps))
           (answerIf backward words maps enough) 1 0 short

@@ -10,10 +10,10 @@ use Rattle.answer.specs.Answer.{Answer, delivered, refused}
 use Rattle.record6250.specs.Read.{changedMaps, answerIf}
 use Rattle.sense_log.specs.Log.{logSpace, logOf}
 
--- the answer for a reading that is answered so
-unfoldable pub logged : List ℕ → Answer → Answer
-logged log (delivered figures) = delivered (length log ∷ [])
-logged log (refused number place) = refused number place
+-- the answer for a log of so many bytes, if its reading is answered so
+abbrev pub logged : ℕ → Answer → Answer
+logged size (delivered figures) = delivered (size ∷ [])
+logged size (refused number place) = refused number place
 
 module _ (backward : Bool) (words maps : List ℕ) where
   -- the log of a reading: of the maps of its changed tracks, in forward order
@@ -22,4 +22,4 @@ module _ (backward : Bool) (words maps : List ℕ) where
 
   -- the answer with so much space for the log: the reader's, by the log's own space
   unfoldable pub logAnswer : ℕ → Answer
-  logAnswer space = logged readingLog (answerIf backward words maps (leb (logSpace (length maps)) space))
+  logAnswer space = logged (length readingLog) (answerIf backward words maps (leb (logSpace (length maps)) space))

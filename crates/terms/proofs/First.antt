@@ -93,10 +93,9 @@ listed-read (at800 backward characters) space =
     (listed-800 (length characters) (length characters - 2) (eight.picture backward characters)))
 
 -- a log keeps the refusal of its reading, and reading one back has three of its own
-listed-logged : (bound : ℕ) (bytes : List ℕ) (answer : Answer) → Listed bound answer → Listed bound (logged bytes answer)
-unfolding logged
-listed-logged bound bytes (Answer.delivered figures) listed = listed-delivery bound _
-listed-logged bound bytes (Answer.refused number place) listed = listed
+listed-logged : (bound size : ℕ) (answer : Answer) → Listed bound answer → Listed bound (logged size answer)
+listed-logged bound size (Answer.delivered figures) listed = listed-delivery bound _
+listed-logged bound size (Answer.refused number place) listed = listed
 
 listed-log : (backward : Bool) (words maps : List ℕ) (space : ℕ) → Listed (length maps) (logAnswer backward words maps space)
 unfolding logAnswer

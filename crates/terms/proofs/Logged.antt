@@ -94,11 +94,11 @@ module _ (backward : Bool) (words maps : List ℕ) (answer : Answer) (before aft
     delivers : (bytes : List ℕ) → OneFits (at6250 backward words maps) bytes
         → (answer ≡ delivered (length (logOf (mapsChanged backward words maps bytes)) ∷ []))
         × (readingLog backward words maps ≡ logOf (mapsChanged backward words maps bytes))
-    unfolding Fits logAnswer logged readingLog
+    unfolding Fits logAnswer readingLog
     delivers bytes one =
         let is = ap logOf (maps-changed backward words maps passes bytes (one .fits)) in (
           answers
-              ∙ ap (logged (readingLog backward words maps)) (judged ∙ fits-delivered backward words maps passes bytes (one .fits) .0)
+              ∙ ap (logged (length (readingLog backward words maps))) (judged ∙ fits-delivered backward words maps passes bytes (one .fits) .0)
               ∙ ap (λ (l : List ℕ). delivered (length l ∷ [])) is,
           is,
         )
@@ -106,7 +106,7 @@ module _ (backward : Bool) (words maps : List ℕ) (answer : Answer) (before aft
     has-one : (figures : List ℕ) → answer ≡ delivered figures → (bytes : List ℕ) × OneFits (at6250 backward words maps) bytes
     unfolding Fits logAnswer
     has-one figures e =
-        let told = logged-delivered (readingLog backward words maps) _ figures (sym answers ∙ e) .1 in
+        let told = logged-delivered (length (readingLog backward words maps)) _ figures (sym answers ∙ e) .1 in
         let f = delivered-fits backward words maps passes (told .0) (sym judged ∙ told .1) in (
           readData backward words maps,
           record { fits = f; only = λ others g. only-one backward words maps passes others (readData backward words maps) g f },
