@@ -1,38 +1,24 @@
 // The maps of changed tracks that stand in a log behind its bit map, one for each group whose bit stands.
 use crate::bits::bit_map_length;
+use crate::pair::pair_at;
 use rectangular::Code6250;
 ghost use mathlib.Core.Bool.{true, cond};
 ghost use mathlib.Core.Path.{_≡_};
-ghost use Prim.Native.Nat.{_+_, _*_, _<_};
+ghost use Prim.Native.Nat.{_+_, _<_};
 ghost use lib.Dec.{eqb};
 ghost use lib.ListN.{length};
 ghost use Rattle.sense_log.specs.Back.{lengthSuits, mapsSuit};
-ghost use Rattle.log_reader.specs.Stored.{mapAt};
-
-// The map of two bytes.
-fn map_of(low: u8, high: u8) -> u16
-    ensures { λ r. ⌜ r ≡ low + 256 * high ⌝ }
-{
-    low as u16 + 256 * (high as u16)
-}
-
-// The map whose two bytes, low one first, stand from an index on.
-fn map_at(log: &[u8], at: usize) -> u16
-    requires { ⌜ at + 1 < length (now log) ⌝ }
-    ensures { λ r. ⌜ r ≡ mapAt (now (log .entry)) at ⌝ }
-{
-    map_of(log[at], log[at + 1])
-}
+ghost use Rattle.log_reader.specs.Pair.{pairAt};
 
 // The map of a group whose bit this is, where the next of the maps stands from an index on: zero if the bit does not stand.
 pub(crate) fn map_of_group(bit: u8, log: &[u8], at: usize) -> u16
     requires { ⌜ (0 < bit → at + 1 < length (now log)) ⌝ }
-    ensures { λ r. ⌜ r ≡ cond (eqb bit 0) 0 (mapAt (now (log .entry)) at) ⌝ }
+    ensures { λ r. ⌜ r ≡ cond (eqb bit 0) 0 (pairAt (now (log .entry)) at) ⌝ }
 {
     if bit == 0 {
         return 0;
     }
-    map_at(log, at)
+    pair_at(log, at)
 }
 
 // Whether none of the maps is 0 or above 511.
@@ -44,7 +30,7 @@ pub(crate) fn maps_suit(groups: usize, log: &[u8]) -> bool
     let count = (log.len() - front) / 2;
     let mut k = 0;
     while k < count {
-        let map = map_at(log, front + 2 * k);
+        let map = pair_at(log, front + 2 * k);
         if map == 0 {
             return false;
         }

@@ -13,7 +13,7 @@ use Rattle.indexed.specs.List.{tabulate, tabulateFrom, total}
 use Rattle.indexed.proofs.Front.{tabulated-more}
 use Rattle.sense_log.specs.Back.{standingBits, storedMap, mapBack, mapsOf}
 use Rattle.sense_log.specs.Log.{bitMapLength}
-use Rattle.log_reader.specs.Stored.{mapAt}
+use Rattle.log_reader.specs.Pair.{pairAt}
 use Rattle.log_reader.proofs.Standing.{group-bit-lt, standing-more, standing-le}
 use Rattle.log_reader.proofs.Suits.{few-groups, long}
 use Rattle.log_reader.proofs.Answers.{map-within}
@@ -84,7 +84,7 @@ loop-again c =
     let bit = c .before .group-bit in
     let next = standing-more log g in
     let map : c .map-of-group .result ≡ mapBack groups log g =
-    c .map-of-group .ensures ∙ ap₂ (λ (b k : ℕ). cond (eqb b 0) 0 (mapAt log k)) (bit .ensures) (at .loop .inv .2) in (
+    c .map-of-group .ensures ∙ ap₂ (λ (b k : ℕ). cond (eqb b 0) 0 (pairAt log k)) (bit .ensures) (at .loop .inv .2) in (
       search needs,
       length-set (at .loop .maps) g _ ∙ at .loop .inv .1,
       omega (arith, at .loop .inv .2, next, bit .ensures),

@@ -8,7 +8,7 @@ use native.Mathlib.Omega.{arith}
 use denote.Ref.{now}
 use Rattle.indexed.proofs.Below.{one-more-below}
 use Rattle.sense_log.specs.Back.{standingBits, storedMap}
-use Rattle.log_reader.specs.Stored.{mapAt}
+use Rattle.log_reader.specs.Pair.{pairAt}
 use Rattle.log_reader.proofs.Suits.{suited, few-groups, long, maps-stored, map-none, map-stray, map-right, one-unsuited, all-suited}
 use borrow.Author.Needs.{needs}
 use Rattle.log_reader.proofs.stored.maps_suit.Statement.{statement}
@@ -31,22 +31,22 @@ sub-count c =
 loop-holds : tie.Need-loop-holds Inv-loop μ-loop
 loop-holds c = (search needs, λ j h. absurd (not-suc-le-zero h))
 
-mul-map-at : tie.Need-mul-map-at Inv-loop μ-loop
-mul-map-at c = search needs
+mul-pair-at : tie.Need-mul-pair-at Inv-loop μ-loop
+mul-pair-at c = search needs
 
-add-map-at : tie.Need-add-map-at Inv-loop μ-loop
-add-map-at c = search needs
+add-pair-at : tie.Need-add-pair-at Inv-loop μ-loop
+add-pair-at c = search needs
 
-map-at-requires : tie.Need-map-at-requires Inv-loop μ-loop
-map-at-requires c κs = search needs
+pair-at-requires : tie.Need-pair-at-requires Inv-loop μ-loop
+pair-at-requires c κs = search needs
 
 -- map k is looked at
-looked : (c : tie.After-map-at Inv-loop μ-loop)
-    → c .map-at .result ≡ storedMap (c .before .before .before .before .before .args .groups) (now (c .before .before .before .before .before .args .log)) (c .before .before .loop .k)
+looked : (c : tie.After-pair-at Inv-loop μ-loop)
+    → c .pair-at .result ≡ storedMap (c .before .before .before .before .before .args .groups) (now (c .before .before .before .before .before .args .log)) (c .before .before .loop .k)
 unfolding storedMap
 looked c =
     let front = c .before .before .before .bit-map-length in
-    c .map-at .ensures ∙ ap (λ (at : ℕ). mapAt (now (c .before .before .before .before .before .args .log)) (at + 2 * c .before .before .loop .k)) (front .ensures)
+    c .pair-at .ensures ∙ ap (λ (at : ℕ). pairAt (now (c .before .before .before .before .before .args .log)) (at + 2 * c .before .before .loop .k)) (front .ensures)
 
 -- and is one of those that stand
 among : (c : tie.In-loop Inv-loop μ-loop)
@@ -109,9 +109,9 @@ maps-suit-spec =
     bit-map-length-requires
     sub-count
     loop-holds
-    mul-map-at
-    add-map-at
-    map-at-requires
+    mul-pair-at
+    add-pair-at
+    pair-at-requires
     returns
     returns-2
     add-k
