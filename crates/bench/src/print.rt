@@ -2,7 +2,6 @@
 // text behind what the page holds, and tells how much it holds then.
 use crate::reading::Fault;
 use crate::reading::Parsed;
-use answer::Refusal;
 use page::PAGE;
 use page::decimal;
 use page::hexadecimal;
@@ -96,14 +95,6 @@ pub(crate) fn figure(page: &mut [u8; PAGE], held: usize, value: usize) -> usize 
 
 pub(crate) fn delivered(page: &mut [u8; PAGE]) -> usize {
     put(page, 0, b"delivered")
-}
-
-pub(crate) fn refused(page: &mut [u8; PAGE], refusal: Refusal) -> usize {
-    let reason = refusal.reason;
-    let begun = put(page, 0, b"refused ");
-    let numbered = word(page, begun, reason.number());
-    let placed = figure(page, numbered, refusal.place);
-    newline(page, placed)
 }
 
 // What is wrong with a line of so many numbers.

@@ -7,6 +7,7 @@ use native.Mathlib.Omega.{arith}
 use lib.ListN.{length, drop, getD, List·getD-append}
 use Rattle.answer.specs.Answer.{Answer, delivered, numberOf, toldWritten, outputAfter}
 use Rattle.answer.specs.declared.Refusal.{Refusal}
+use Rattle.answer_text.specs.Refusal.{refusalText}
 use Rattle.rectangular.specs.Constants.{numbersPerGroup}
 use Rattle.record6250.specs.Record.{writtenRecord, groupsFor}
 use Rattle.record6250.specs.Written.{writeAnswer}
@@ -18,7 +19,7 @@ use Rattle.streams.specs.Message.{unreadText}
 use Rattle.streams.specs.Ended.{Prints, Tells}
 use Rattle.streams.specs.declared.Text.{Text}
 use Rattle.streams.specs.declared.Text.the-variants.{Output, Message}
-use Rattle.listing.specs.Listing.{recordText, refusalText, answerText, listingText, mostWords, Listed}
+use Rattle.listing.specs.Listing.{recordText, answerText, listingText, mostWords, Listed}
 use Rattle.listing.proofs.Lines.{record-same}
 
 module _ (bytes : List ℕ) (r : Written) (told : toldWritten r ≡ writeAnswer (length bytes) mostWords) where

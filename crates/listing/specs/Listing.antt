@@ -11,6 +11,7 @@ use Rattle.indexed.specs.List.{blocks}
 use Rattle.rectangular.specs.Constants.{numbersPerGroup, mostGroups}
 use Rattle.record6250.specs.Record.{writtenRecord}
 use Rattle.record6250.specs.Written.{writeAnswer}
+use Rattle.answer_text.specs.Refusal.{refusalText}
 use Rattle.page.specs.Ascii.{ascii}
 use Rattle.streams.specs.Message.{unreadText}
 use Rattle.page.specs.Page.{decimalText, Printed}
@@ -31,9 +32,6 @@ groupText words at = wordsText words at numbersPerGroup ++ ascii "\n"
 
 abbrev pub recordText : List ℕ → ℕ → List ℕ
 recordText words groups = blocks groups (λ g. groupText words (numbersPerGroup * g))
-
-abbrev pub refusalText : ℕ → ℕ → List ℕ
-refusalText number place = ascii "refused " ++ decimalText number ++ ascii " " ++ decimalText place ++ ascii "\n"
 
 abbrev pub answerText : List ℕ → Answer → List ℕ
 answerText words (delivered []) = []

@@ -1,7 +1,7 @@
 // The listing program (document 01, "Bench readings"): reads data from standard input and prints the
 // words of the 6250 record that is written from them, a line for each group; or the refusal.
-use answer::Refusal;
 use answer::Written;
+use answer_text::put_refusal;
 use page::PAGE;
 use page::decimal;
 use page::put;
@@ -10,11 +10,10 @@ use streams::Ended;
 use streams::Text;
 ghost use Prim.Native.Nat.{_+_, _*_, _≤_};
 ghost use lib.ListN.{length};
-ghost use Rattle.answer.specs.Answer.{numberOf};
 ghost use Rattle.rectangular.specs.Constants.{numbersPerGroup};
 ghost use Rattle.page.specs.Page.{Printed};
 ghost use Rattle.streams.specs.Ended.{Prints};
-ghost use Rattle.listing.specs.Listing.{wordText, groupText, recordText, refusalText, listingText, Listed};
+ghost use Rattle.listing.specs.Listing.{wordText, groupText, recordText, listingText, Listed};
 
 // Puts word j of a line, a space in front of all but the first.
 fn put_word(page: &mut [u8; PAGE], held: usize, j: usize, word: u16) -> usize
@@ -55,17 +54,6 @@ fn put_groups(page: &mut [u8; PAGE], words: &[u16], groups: usize) -> usize
     end
 }
 
-fn put_refusal(page: &mut [u8; PAGE], refusal: Refusal) -> usize
-    ensures { λ r. ⌜ Printed (refusalText (numberOf (refusal .reason)) (refusal .place)) (now (page .entry)) 0 (now (page .exit)) r ⌝ }
-{
-    let reason = refusal.reason;
-    let begun = put(page, 0, b"refused ");
-    let numbered = decimal(page, begun, reason.number() as u64);
-    let spaced = put(page, numbered, b" ");
-    let placed = decimal(page, spaced, refusal.place as u64);
-    put(page, placed, b"\n")
-}
-
 // The listing of data.
 fn listing(page: &mut [u8; PAGE], bytes: &[u8]) -> Text
     ensures { λ r. ⌜ Prints (listingText (now (bytes .entry))) (now (page .entry)) (now (page .exit)) r ⌝ }
@@ -73,7 +61,7 @@ fn listing(page: &mut [u8; PAGE], bytes: &[u8]) -> Text
     let mut words = [0u16; Code6250::NUMBERS * Code6250::MOST_GROUPS];
     match writer6250::write(bytes, &mut words) {
         Written::Delivered(groups) => Text::Output(put_groups(page, &words, groups)),
-        Written::Refused(refusal) => Text::Output(put_refusal(page, refusal)),
+        Written::Refused(refusal) => Text::Output(put_refusal(page, 0, refusal)),
     }
 }
 

@@ -1,16 +1,17 @@
 -- A call that moves some bytes to or from the rest of a slice: it moves one at least, and stays within the slice.
 -- Assumes nothing.
-use Prim.Native.Nat.{ℕ, _+_, _-_, _≤_, _<_}
-use mathlib.Core.Path.{_≡_, sym, subst}
+use Prim.Native.Nat.{ℕ, _+_, _-_, _^_, _≤_, _<_}
+use mathlib.Core.Path.{_≡_, refl, sym, ap, subst}
 use mathlib.Core.List.{List}
+use native.Mathlib.Nat.{zero-add}
 use native.Mathlib.Omega.{arith}
 use lib.ListN.{length, drop, take, length-drop}
 use lib.Seq.{length-take-le}
 use Rattle.io.specs.Counts.{Counts}
 use Rattle.transfer.specs.Moved.{Within, endedBy}
-use Rattle.streams.specs.Ended.{Filled, Taken}
+use Rattle.streams.specs.Ended.{Filled, Taken, Bounded, endedBehind}
 use Rattle.transfer.specs.declared.Ended.{Ended}
-use Rattle.transfer.specs.declared.Ended.the-variants.{After}
+use Rattle.transfer.specs.declared.Ended.the-variants.{After, Failed as Broken}
 use Rattle.transfer.specs.declared.Moved.{Moved}
 use Rattle.transfer.specs.declared.Moved.the-variants.{Bytes, Nothing, Interrupted, Failed}
 
@@ -50,3 +51,13 @@ module _ (count : ℕ) (last : Moved) (ended : Ended) (e : ended ≡ endedBy cou
 -- an input that was read is at the front of the space
 pub read-whole : (ended : Ended) (count : ℕ) (space : List ℕ) → ended ≡ After count → Filled ended space → Counts count space
 read-whole ended count space e h = subst (λ (i : Ended). Filled i space) e h
+
+-- ---- a part of an output, behind what was handed over before
+
+pub bounded : (earlier held : ℕ) (sent : Ended) → Taken sent held → earlier + held < 2 ^ 64 → Bounded earlier sent
+bounded earlier held (After count) taken h = omega arith
+bounded earlier held (Broken number) taken h = tt
+
+pub none-earlier : (sent : Ended) → endedBehind 0 sent ≡ sent
+none-earlier (After count) = ap After (zero-add count)
+none-earlier (Broken number) = refl

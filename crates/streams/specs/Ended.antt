@@ -1,6 +1,6 @@
 -- What is known of an input that was read and of a text that was handed over.
 -- Assumes nothing.
-use Prim.Native.Nat.{ℕ, _≤_}
+use Prim.Native.Nat.{ℕ, _+_, _^_, _≤_, _<_}
 use mathlib.Core.Path.{_≡_}
 use mathlib.Core.Bool.{Bool, true, false}
 use mathlib.Core.List.{List}
@@ -32,6 +32,20 @@ isWhole (Failed number) all = false
 abbrev pub Left : Bool → List ℕ → List ℕ → List ℕ → Type 0
 Left true message page page' = page' ≡ page
 Left false message page page' = (held : ℕ) × Printed message page 0 page' held
+
+-- how an output ended, of which so many bytes had gone out before
+abbrev pub endedBehind : ℕ → Ended → Ended
+endedBehind earlier (After count) = After (earlier + count)
+endedBehind earlier (Failed number) = Failed number
+
+-- the bytes that had gone out are a number of 64 bits
+abbrev pub Bounded : ℕ → Ended → Type 0
+Bounded earlier (After count) = earlier + count < 2 ^ 64
+Bounded earlier (Failed number) = Unit {0}
+
+-- what comes of handing over a part of an output, behind so many bytes that were handed over before: what is on the page then
+abbrev pub Passed : ℕ → ℕ → List ℕ → List ℕ → Ended → Type 0
+Passed held earlier page page' sent = Taken sent held × Left (isWhole sent held) (unwrittenText (endedBehind earlier sent) (earlier + held)) page page'
 
 abbrev pub Finished : Text → List ℕ → List ℕ → Ended → Type 0
 Finished (Output held) page page' sent = Taken sent held × Left (isWhole sent held) (unwrittenText sent held) page page'

@@ -1,12 +1,15 @@
 // Standard input, output and error, as every program uses them: a read that fails is never taken for the end of the
-// input, what cannot be written is told on standard error, and output goes out in one piece. A program makes its text
-// on a page and hands it over when it is whole.
+// input, and what cannot be written is told on standard error. A program makes its text on a page and hands it over in one
+// piece, when it is whole, or page by page where its output has no bound.
 mod message;
 mod sink;
 mod source;
 
 pub use message::unread;
 pub use sink::finish;
+pub use sink::finish_behind;
+pub use sink::is_whole;
+pub use sink::pass_on;
 pub use source::read;
 pub use transfer::Ended;
 

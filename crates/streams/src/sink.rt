@@ -13,9 +13,11 @@ use transfer::end;
 use transfer::error_number;
 use transfer::is_interrupted;
 ghost use mathlib.Core.Path.{_≡_};
+ghost use Prim.Native.Nat.{_+_, _^_, _<_};
 ghost use lib.ListN.{length};
 ghost use Rattle.transfer.specs.Moved.{Within};
-ghost use Rattle.streams.specs.Ended.{Taken, isWhole, Finished};
+ghost use Rattle.streams.specs.Ended.{Taken, isWhole, Left, endedBehind, Bounded, Passed, Finished};
+ghost use Rattle.streams.specs.Message.{unwrittenText};
 
 // One write, made again where a signal came first.
 fn write_some(fd: i32, bytes: &[u8]) -> Moved
@@ -76,7 +78,8 @@ fn send_page(fd: i32, page: &[u8; PAGE], held: usize) -> Ended
     send(fd, &bytes[..held])
 }
 
-fn is_whole(sent: Ended, all: usize) -> bool
+// Whether all of a text was taken.
+pub fn is_whole(sent: Ended, all: usize) -> bool
     ensures { λ r. ⌜ r ≡ isWhole sent all ⌝ }
 {
     match sent {
@@ -85,8 +88,51 @@ fn is_whole(sent: Ended, all: usize) -> bool
     }
 }
 
-// Hands a program's output over and closes standard output: a file across a network may tell only then that it took
+// How an output ended, of which so many bytes had gone out before.
+fn behind(earlier: usize, sent: Ended) -> Ended
+    requires { ⌜ Bounded earlier sent ⌝ }
+    ensures { λ r. ⌜ r ≡ endedBehind earlier sent ⌝ }
+{
+    match sent {
+        Ended::After(count) => Ended::After(earlier + count),
+        Ended::Failed(number) => Ended::Failed(number),
+    }
+}
+
+// Tells on standard error if a text was not taken whole, behind so many bytes that had gone out before.
+fn tell(page: &mut [u8; PAGE], sent: Ended, held: usize, earlier: usize)
+    requires { ⌜ Taken sent held × (earlier + held < 2 ^ 64) ⌝ }
+    ensures { λ _. ⌜ Left (isWhole sent held) (unwrittenText (endedBehind earlier sent) (earlier + held)) (now (page .entry)) (now (page .exit)) ⌝ }
+{
+    if !is_whole(sent, held) {
+        let told = unwritten(page, behind(earlier, sent), earlier + held);
+        send_page(STDERR_FILENO, page, told);
+    }
+}
+
+// Hands over what a program has of its output by now, behind so many bytes that it handed over before, and tells on
+// standard error if it could not be written. More is to come, unless this was not taken whole.
+pub fn pass_on(page: &mut [u8; PAGE], held: usize, earlier: usize) -> Ended
+    requires { ⌜ earlier + held < 2 ^ 64 ⌝ }
+    ensures { λ r. ⌜ Passed held earlier (now (page .entry)) (now (page .exit)) r ⌝ }
+{
+    let sent = send_page(STDOUT_FILENO, page, held);
+    tell(page, sent, held, earlier);
+    sent
+}
+
+// The same with the last of an output. Standard output is closed: a file across a network may tell only then that it took
 // nothing.
+pub fn finish_behind(page: &mut [u8; PAGE], held: usize, earlier: usize) -> Ended
+    requires { ⌜ earlier + held < 2 ^ 64 ⌝ }
+    ensures { λ r. ⌜ Passed held earlier (now (page .entry)) (now (page .exit)) r ⌝ }
+{
+    let sent = output(page, held);
+    tell(page, sent, held, earlier);
+    sent
+}
+
+// Hands a program's output over and closes standard output.
 fn output(page: &[u8; PAGE], held: usize) -> Ended
     ensures { λ r. ⌜ Taken r held ⌝ }
 {
@@ -99,19 +145,12 @@ fn output(page: &[u8; PAGE], held: usize) -> Ended
     sent
 }
 
-// Hands over a program's text, and tells on standard error what of its output could not be written.
+// Hands over a program's whole text, and tells on standard error what of its output could not be written.
 pub fn finish(text: Text, page: &mut [u8; PAGE]) -> Ended
     ensures { λ r. ⌜ Finished text (now (page .entry)) (now (page .exit)) r ⌝ }
 {
     match text {
         Text::Message(held) => send_page(STDERR_FILENO, page, held),
-        Text::Output(held) => {
-            let sent = output(page, held);
-            if !is_whole(sent, held) {
-                let told = unwritten(page, sent, held);
-                send_page(STDERR_FILENO, page, told);
-            }
-            sent
-        }
+        Text::Output(held) => finish_behind(page, held, 0),
     }
 }

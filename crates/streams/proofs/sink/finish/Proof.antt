@@ -1,9 +1,8 @@
--- `streams::sink::finish` meets its contract: what comes of the text is what came of handing it over.
+-- `streams::sink::finish` meets its contract: nothing was handed over before.
 -- Assumes nothing.
-use mathlib.Core.Path.{_≡_, refl, sym, _∙_}
-use mathlib.Core.Bool.{true, false}
-use Rattle.streams.specs.Ended.{isWhole}
-use borrow.Author.Tests.{not-true, not-false}
+use mathlib.Core.Path.{refl}
+use native.Mathlib.Nat.{zero-add}
+use Rattle.streams.proofs.Progress.{none-earlier}
 use borrow.Author.Needs.{needs}
 use Rattle.streams.proofs.sink.finish.Statement.{statement}
 use Rattle.streams.proofs.sink.finish.Tie as tie
@@ -17,33 +16,14 @@ send-page-requires c κs = search needs
 enum-known-text-2 : tie.Need-enum-known-text-2
 enum-known-text-2 c = search needs
 
-output-requires : tie.Need-output-requires
-output-requires c κs = search needs
-
-is-whole-requires : tie.Need-is-whole-requires
-is-whole-requires c κs = search needs
-
-unwritten-requires : tie.Need-unwritten-requires
-unwritten-requires c κs = search needs
-
-send-page-requires-2 : tie.Need-send-page-requires-2
-send-page-requires-2 c κs = search needs
+finish-behind-requires : tie.Need-finish-behind-requires
+finish-behind-requires c κs = search needs
 
 returns : tie.Need-returns
 returns c = rw (c .before .before .before .text .given .1) (c .send-page .ensures, refl)
 
 returns-2 : tie.Need-returns-2
-returns-2 c =
-    let told = c .before .before in
-    let sent = c .before .before .before .before .before .before in
-    let cut : isWhole (sent .output .result) (sent .before .before .before .text2 .given .0 .0) ≡ false = sym (c .before .before .before .before .before .is-whole .ensures) ∙ not-true _ (c .before .before .before .before .if1 .taken) in
-    rw (sent .before .before .before .text2 .given .1, cut) (sent .output .ensures, (told .unwritten .result, told .unwritten .ensures))
-
-returns-3 : tie.Need-returns-3
-returns-3 c =
-    let sent = c .before .before in
-    let whole : isWhole (sent .output .result) (sent .before .before .before .text2 .given .0 .0) ≡ true = sym (c .before .is-whole .ensures) ∙ not-false _ (c .if1 .left) in
-    rw (sent .before .before .before .text2 .given .1, whole) (sent .output .ensures, refl)
+returns-2 c = rw (c .before .before .before .text2 .given .1) (rw (none-earlier (c .finish-behind .result), zero-add) at (c .finish-behind .ensures))
 
 pub finish-spec : {M : Type 1} → statement M
 finish-spec =
@@ -52,10 +32,6 @@ finish-spec =
     enum-known-text
     send-page-requires
     enum-known-text-2
-    output-requires
-    is-whole-requires
-    unwritten-requires
-    send-page-requires-2
+    finish-behind-requires
     returns
-    returns-2
-    returns-3)
+    returns-2)

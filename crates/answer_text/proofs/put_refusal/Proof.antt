@@ -1,9 +1,9 @@
--- `listing::put_refusal` meets its contract: one text behind another.
+-- `answer_text::put_refusal` meets its contract: one text behind another.
 -- Assumes nothing.
 use Rattle.page.proofs.Printed.{printed-both}
 use borrow.Author.Needs.{needs}
-use Rattle.listing.proofs.put_refusal.Statement.{statement}
-use Rattle.listing.proofs.put_refusal.Tie as tie
+use Rattle.answer_text.proofs.put_refusal.Statement.{statement}
+use Rattle.answer_text.proofs.put_refusal.Tie as tie
 
 slice-aggregate-put : tie.Need-slice-aggregate-put
 slice-aggregate-put c = search needs

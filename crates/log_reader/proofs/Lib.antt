@@ -1,0 +1,4 @@
+pub mod Standing
+pub mod Spare
+pub mod Suits
+pub mod Answers
