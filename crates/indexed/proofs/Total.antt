@@ -69,7 +69,7 @@ none-of-total (suc n) f e k h = by (decLt k n) (none-of-total n f (omega arith) 
     by (yes b) ih = ih b
     by (no b) ih = let same : k ≡ n = omega arith in rw same (omega arith)
 
--- ---- one term among them, and a sum doubled
+-- ---- one term among them, parts, sums of zeros and ones, and a sum doubled
 
 pub total-within : (n : ℕ) (f : ℕ → ℕ) (g : ℕ) → g < n → total g f + f g ≤ total n f
 unfolding total
@@ -79,6 +79,21 @@ total-within (suc n) f g h = by (decLt g n) (total-within n f g)
     by : Dec (g < n) → (g < n → total g f + f g ≤ total n f) → total g f + f g ≤ total n f + f n
     by (yes b) before = omega (arith, before b)
     by (no b) before = let last : g ≡ n = omega arith in rw last (omega arith)
+
+-- in two parts
+pub total-split : (m n : ℕ) (f : ℕ → ℕ) → total (m + n) f ≡ total m f + total n (λ k. f (m + k))
+unfolding total
+total-split m zero f = ap (λ (k : ℕ). total k f) (add-zero m) ∙ sym (add-zero (total m f))
+total-split m (suc n) f =
+    ap (λ (k : ℕ). total k f) (add-suc m n)
+    ∙ ap (λ (x : ℕ). x + f (m + n)) (total-split m n f)
+    ∙ add-assoc (total m f) _ _
+
+-- of zeros and ones
+pub total-digits : (n : ℕ) (f : ℕ → ℕ) → ((k : ℕ) → f k < 2) → total n f ≤ n
+unfolding total
+total-digits zero f h = omega arith
+total-digits (suc n) f h = omega (arith, total-digits n f h, h n)
 
 pub total-twice : (n : ℕ) (f g : ℕ → ℕ) → ((k : ℕ) → f k ≡ 2 * g k) → total n f ≡ 2 * total n g
 unfolding total

@@ -1,4 +1,3 @@
 pub mod Standing
 pub mod Spare
 pub mod Suits
-pub mod Answers

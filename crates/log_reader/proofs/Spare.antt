@@ -6,22 +6,18 @@ use mathlib.Core.Bool.{Bool, true, false, true≢false}
 use mathlib.Core.List.{List}
 use native.Mathlib.Omega.{arith}
 use borrow.Author.Tests.{eq-eqb, ne-eqb}
-use lib.Dec.{T, eqb, eqb→eq}
+use lib.Dec.{eqb}
 use lib.ListN.{getD}
 use lib.Pow.{pow-pos, shr-lt}
 use Rattle.indexed.specs.Test.{allBelow}
-use Rattle.indexed.proofs.Test.{tested, all-true}
+use Rattle.indexed.proofs.Test.{all-true}
 use Rattle.register.specs.Bit.{bit}
 use Rattle.register.proofs.Bit.{bit-shr}
 use Rattle.register.proofs.Expand.{bit-of-zero, bits-ext}
 use Rattle.sense_log.specs.Back.{groupBit, spareClear}
 use Rattle.sense_log.specs.Log.{bitMapLength}
-use Rattle.log_reader.proofs.Standing.{group-bit-in}
-
--- a test that was computed to hold
-held : (b : Bool) → b ≡ true → T b
-held true e = tt
-held false e = absurd (true≢false (sym e))
+use Rattle.sense_log.proofs.Bits.{group-bit-in}
+use Rattle.sense_log.proofs.Good.{spare-told}
 
 module _ (groups : ℕ) (log : List ℕ) where
   abbrev clear : ℕ → Bool
@@ -51,15 +47,14 @@ module _ (groups : ℕ) (log : List ℕ) where
     unfolding spareClear
     all-clear none =
         all-true (8 * bitMapLength groups - groups) clear
-        (λ k h. eq-eqb _ _ (spare-bit k (omega (arith, spare-bits)) ∙ ap (bit k) none ∙ bit-of-zero k))
+        (λ k h. eq-eqb (groupBit log (groups + k)) 0 (spare-bit k (omega (arith, spare-bits)) ∙ ap (bit k) none ∙ bit-of-zero k))
 
     none-left : spareClear groups log ≡ true → left ≡ 0
-    unfolding spareClear
     none-left e =
         let split : 8 - groups % 8 + groups % 8 ≡ 8 = omega arith in
         bits-ext (8 - groups % 8) left 0 (shr-lt (8 - groups % 8) (groups % 8) (rw split byte)) (pow-pos (8 - groups % 8))
         (λ k h. sym (spare-bit k h)
-        ∙ eqb→eq _ _ (tested (8 * bitMapLength groups - groups) clear (held _ e) k (omega (arith, spare-bits)))
+        ∙ spare-told groups log e (groups + k) (omega arith) (omega (arith, h, spare-bits))
         ∙ sym (bit-of-zero k))
 
     pub spare-shifted : eqb left 0 ≡ spareClear groups log

@@ -2,21 +2,18 @@
 -- Assumes nothing.
 use Prim.Native.Nat.{ℕ, _+_, _-_, _*_, _/_, _<_, _≤_}
 use mathlib.Core.Path.{_≡_, refl, sym, _∙_}
-use mathlib.Core.Bool.{Bool, true, false, _&&_, true≢false}
+use mathlib.Core.Bool.{Bool, true, false, _&&_}
 use mathlib.Core.List.{List}
 use native.Mathlib.Omega.{arith}
-use borrow.Author.Tests.{le-leb, lt-leb, lt-ltb, le-ltb, ne-eqb, ltb-true, leb-true, eqb-true}
+use borrow.Author.Tests.{le-leb, lt-leb, lt-ltb, le-ltb, ne-eqb}
 use lib.Dec.{eqb, leb, ltb}
 use lib.ListN.{length}
 use Rattle.indexed.proofs.Test.{all-true, all-false}
 use Rattle.rectangular.specs.Constants.{mostMap, mostGroups}
-use Rattle.sense_log.specs.Back.{standingBits, suitingLength, lengthSuits, storedMap, mapsSuit}
+use Rattle.sense_log.specs.Back.{groupBit, standingBits, suitingLength, lengthSuits, storedMap, mapsSuit}
 use Rattle.sense_log.specs.Log.{bitMapLength}
-
--- both of two tests
-both : (a b : Bool) → a && b ≡ true → (a ≡ true) × (b ≡ true)
-both true b e = (refl, e)
-both false b e = absurd (true≢false (sym e))
+use Rattle.sense_log.proofs.Bits.{standing-within}
+use Rattle.sense_log.proofs.Good.{length-told}
 
 module _ (groups : ℕ) (log : List ℕ) where
   -- ---- each way in which a length does not suit
@@ -40,23 +37,13 @@ module _ (groups : ℕ) (log : List ℕ) where
   -- ---- what one that suits says
 
   module _ (suits : lengthSuits groups log ≡ true) where
-    parts : ((ltb 0 groups && leb groups mostGroups) ≡ true) × (eqb (length log) (suitingLength groups log) ≡ true)
-    unfolding lengthSuits
-    parts = both (ltb 0 groups && leb groups mostGroups) (eqb (length log) (suitingLength groups log)) suits
-
-    pub some-groups : 0 < groups
-    some-groups = ltb-true 0 groups (both (ltb 0 groups) (leb groups mostGroups) (parts .0) .0)
-
-    pub few-groups : groups ≤ mostGroups
-    few-groups = leb-true groups mostGroups (both (ltb 0 groups) (leb groups mostGroups) (parts .0) .1)
-
-    pub long : length log ≡ bitMapLength groups + 2 * standingBits log groups
-    unfolding suitingLength
-    long = eqb-true _ _ (parts .1)
-
     -- so many maps stand behind the bit map
     pub maps-stored : (length log - bitMapLength groups) / 2 ≡ standingBits log groups
-    maps-stored = omega (arith, long)
+    maps-stored = omega (arith, length-told groups log suits .2)
+
+    -- the two bytes of a group whose bit stands are in the log
+    pub map-within : (g : ℕ) → g < groups → 0 < groupBit log g → bitMapLength groups + 2 * standingBits log g + 1 < length log
+    map-within g h stands = omega (arith, length-told groups log suits .2, standing-within log groups g h)
 
   -- ---- the maps
 

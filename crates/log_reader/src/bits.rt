@@ -7,14 +7,6 @@ ghost use Rattle.rectangular.specs.Constants.{mostGroups};
 ghost use Rattle.sense_log.specs.Back.{groupBit, standingBits, spareClear};
 ghost use Rattle.sense_log.specs.Log.{bitMapLength};
 
-// The bytes of the bit map of so many groups.
-pub(crate) fn bit_map_length(groups: usize) -> usize
-    requires { ⌜ groups ≤ mostGroups ⌝ }
-    ensures { λ r. ⌜ r ≡ bitMapLength groups ⌝ }
-{
-    (groups + 7) / 8
-}
-
 // How many of a byte's lowest bits stand.
 fn lowest_ones(byte: u8, bits: usize) -> usize
     requires { ⌜ bits < 8 ⌝ }

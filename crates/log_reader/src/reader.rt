@@ -1,6 +1,5 @@
 // Reading a log back: all of it is looked at before a map is stored.
 use crate::ReadBack;
-use crate::bits::bit_map_length;
 use crate::bits::group_bit;
 use crate::bits::spare_clear;
 use crate::bits::standing_bits;
@@ -9,6 +8,7 @@ use crate::stored::maps_suit;
 use answer::Reason;
 use answer::Refusal;
 use rectangular::Code6250;
+use sense_log::bit_map_length;
 ghost use mathlib.Core.Bool.{true};
 ghost use mathlib.Core.List.{_++_};
 ghost use mathlib.Core.Path.{_≡_};
@@ -17,6 +17,8 @@ ghost use lib.ListN.{length, drop};
 ghost use Rattle.answer.specs.Answer.{refusedFor, outputAfter};
 ghost use Rattle.sense_log.specs.Back.{lengthSuits, contentSuits, mapsOf, readLogAnswer};
 ghost use Rattle.log_reader.specs.Told.{toldBack};
+ghost use Rattle.terms.specs.Call as Call;
+ghost use Rattle.terms.specs.Terms.{Terms};
 
 // A refusal, which has no place.
 fn refused(reason: Reason) -> ReadBack
@@ -72,6 +74,7 @@ fn deliver(groups: usize, log: &[u8], maps: &mut [u16])
 pub fn read_log(groups: usize, log: &[u8], maps: &mut [u16]) -> ReadBack
     ensures answer { λ r. ⌜ toldBack r ≡ readLogAnswer groups (now (log .entry)) (length (now (maps .entry))) ⌝ }
     ensures maps { λ r. ⌜ now (maps .exit) ≡ outputAfter (toldBack r) (mapsOf groups (now (log .entry))) (now (maps .entry)) ⌝ }
+    ensures terms { λ r. ⌜ Terms (Call.readLog groups (now (log .entry))) (toldBack r) (now (maps .entry)) (now (maps .exit)) ⌝ }
 {
     if maps.len() < groups {
         return refused(Reason::Space);

@@ -1,7 +1,7 @@
 // The maps of changed tracks that stand in a log behind its bit map, one for each group whose bit stands.
-use crate::bits::bit_map_length;
 use crate::pair::pair_at;
 use rectangular::Code6250;
+use sense_log::bit_map_length;
 ghost use mathlib.Core.Bool.{true, cond};
 ghost use mathlib.Core.Path.{_≡_};
 ghost use Prim.Native.Nat.{_+_, _<_};

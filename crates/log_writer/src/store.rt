@@ -1,4 +1,5 @@
 // The log of maps of changed tracks, stored at the front of the output: the bit map, and the maps that are not zero.
+use sense_log::bit_map_length;
 ghost use mathlib.Core.Path.{_≡_};
 ghost use Prim.Native.Nat.{_+_, _≤_, _<_};
 ghost use lib.ListN.{length, getD};
@@ -39,7 +40,7 @@ fn store_bit_map(changed: &[u16], log: &mut [u8]) -> usize
     ensures length { λ r. ⌜ r ≡ bitMapLength (length (now (changed .entry))) ⌝ }
     ensures log { λ _. ⌜ now (log .exit) ≡ sets (now (log .entry)) 0 (bitMap (now (changed .entry))) ⌝ }
 {
-    let size = (changed.len() + 7) / 8;
+    let size = bit_map_length(changed.len());
     let mut b = 0;
     while b < size {
         log[b] = bit_map_byte(changed, b);

@@ -7,6 +7,7 @@ use scan6250::Read;
 use scan6250::SHORT;
 use scan6250::judge_record;
 use scan6250::lengths_suit;
+use sense_log::bit_map_length;
 ghost use mathlib.Core.Bool.{true};
 ghost use mathlib.Core.Path.{_≡_};
 ghost use Prim.Native.Nat.{_*_, _≤_};
@@ -89,7 +90,7 @@ pub fn log_by(words: &[u16], maps: &[u16], backward: bool, table: &[u16], log: &
     if !lengths_suit(words.len(), groups) {
         return Written::refused(Reason::Length);
     }
-    if log.len() < (groups + 7) / 8 + 2 * groups {
+    if log.len() < bit_map_length(groups) + 2 * groups {
         return Written::refused(Reason::Space);
     }
     log_sized(words, maps, backward, table, log)

@@ -14,19 +14,14 @@ use lib.Seq.{getD-drop, getD-take, length-take-le, take-add, take-all}
 use Rattle.indexed.specs.List.{tabulate, blocks, total}
 use Rattle.indexed.proofs.Blocks.{blocks-same}
 use Rattle.indexed.proofs.Tabulate.{getD-tabulate, tabulate-same, tabulate-getD}
-use Rattle.indexed.proofs.Total.{total-within}
-use Rattle.register.specs.Bit.{bit, bitsOf, ofBits}
-use Rattle.register.proofs.Bit.{bit-lt, ofBits-bitsOf}
+use Rattle.register.specs.Bit.{bitsOf, ofBits}
+use Rattle.register.proofs.Bit.{ofBits-bitsOf}
 use Rattle.sense_log.specs.Back.{groupBit, standingBits, lengthSuits, contentSuits, storedMap, mapBack, mapsOf}
 use Rattle.sense_log.specs.Log.{bitMapLength, standing, bitMapByte, bitMap, mapBytes, logOf}
 use Rattle.sense_log.proofs.Back.{length-mapsOf}
+use Rattle.sense_log.proofs.Bits.{group-bit-lt, standing-within, group-bit-in}
 use Rattle.sense_log.proofs.Good.{length-told, spare-told, maps-told, content-told}
 use Rattle.sense_log.proofs.Standing.{standing-none, standing-some, no-bytes, two-bytes}
-
--- a group's bit is one or none
-bit-below : (log : List ℕ) (g : ℕ) → groupBit log g < 2
-unfolding groupBit
-bit-below log g = bit-lt (g % 8) (getD log (g / 8) 0)
 
 -- the first two elements
 first-two : (l : List ℕ) (a b : ℕ) → 2 ≤ length l → getD l 0 0 ≡ a → getD l 1 0 ≡ b → take 2 l ≡ a ∷ b ∷ []
@@ -60,8 +55,7 @@ module _ (groups : ℕ) (log : List ℕ) (bytes : (k : ℕ) → getD log k 0 < 2
       ap (λ (b : Bool). cond b 0 (storedMap groups log (standingBits log g))) (ne-eqb (groupBit log g) 0 (λ z. omega (arith, e, z)))
 
   counted : (g : ℕ) → g < groups → groupBit log g ≡ 1 → standingBits log g < standingBits log groups
-  unfolding standingBits
-  counted g h e = omega (arith, total-within groups (groupBit log) g h, e)
+  counted g h e = omega (arith, standing-within log groups g h, e)
 
   map-positive : (g : ℕ) → g < groups → groupBit log g ≡ 1 → 0 < mapBack groups log g
   map-positive g h e =
@@ -77,7 +71,7 @@ module _ (groups : ℕ) (log : List ℕ) (bytes : (k : ℕ) → getD log k 0 < 2
           let zero-bit : groupBit log g ≡ 0 = omega arith in
           standing-none (getD maps g 0) (map-of g h ∙ map-none g zero-bit) ∙ sym zero-bit
       inside h (no some) =
-          let one-bit : groupBit log g ≡ 1 = omega (arith, bit-below log g) in
+          let one-bit : groupBit log g ≡ 1 = omega (arith, group-bit-lt log g) in
           standing-some (getD maps g 0) (rw (map-of g h) (map-positive g h one-bit)) ∙ sym one-bit
 
       by : Dec (g < groups) → standing (getD maps g 0) ≡ groupBit log g
@@ -87,14 +81,10 @@ module _ (groups : ℕ) (log : List ℕ) (bytes : (k : ℕ) → getD log k 0 < 2
           ∙ sym (spare-told groups log (content-told groups log good .0) g (omega arith) b)
 
   byte-again : (b : ℕ) → b < bitMapLength groups → bitMapByte maps b ≡ getD log b 0
-  unfolding bitMapByte groupBit bitsOf
-  byte-again b h = ap ofBits (tabulate-same 8 _ _ same) ∙ ofBits-bitsOf 8 (getD log b 0) (bytes b)
-    where
-      same : (i : ℕ) → i < 8 → standing (getD maps (8 * b + i) 0) ≡ bit i (getD log b 0)
-      same i c =
-          let rest : (8 * b + i) % 8 ≡ i = omega arith in
-          let whole : (8 * b + i) / 8 ≡ b = omega arith in
-          bit-again (8 * b + i) (omega arith) ∙ ap₂ (λ (r q : ℕ). bit r (getD log q 0)) rest whole
+  unfolding bitMapByte bitsOf
+  byte-again b h =
+      ap ofBits (tabulate-same 8 _ _ (λ i c. bit-again (8 * b + i) (omega arith) ∙ group-bit-in log b i c))
+      ∙ ofBits-bitsOf 8 (getD log b 0) (bytes b)
 
   bitMap-again : bitMap maps ≡ take (bitMapLength groups) log
   unfolding bitMap
@@ -143,7 +133,7 @@ module _ (groups : ℕ) (log : List ℕ) (bytes : (k : ℕ) → getD log k 0 < 2
           ∙ append-nil (take (2 * standingBits log n) behind)
           ∙ ap (λ (k : ℕ). take k behind) (sym same)
       by (no some) before =
-          let one-bit : groupBit log n ≡ 1 = omega (arith, bit-below log n) in
+          let one-bit : groupBit log n ≡ 1 = omega (arith, group-bit-lt log n) in
           let more : 2 * (standingBits log n + groupBit log n) ≡ 2 * standingBits log n + 2 = omega (arith, one-bit) in
           ap₂ _++_ before (two-again n h one-bit)
           ∙ sym (take-add (2 * standingBits log n) 2 behind)

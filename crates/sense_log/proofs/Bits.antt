@@ -1,19 +1,52 @@
--- The bit map of a written log: its length, and each group's bit in it.
+-- The bits of a log, and those of a written one: the length of its bit map, and each group's bit in it.
 -- Assumes nothing.
-use mathlib.Core.Path.{_≡_, refl, sym, ap, _∙_}
+use mathlib.Core.Path.{_≡_, ap, ap₂, _∙_}
 use mathlib.Core.List.{List, _++_}
-use Prim.Native.Nat.{ℕ, zero, suc, _+_, _*_, _/_, _%_, _<_, _≤_}
+use Prim.Native.Nat.{ℕ, _+_, _*_, _/_, _%_, _<_, _≤_}
+use native.Mathlib.Numerals.{add-one}
 use native.Mathlib.Omega.{arith}
 use lib.ListN.{length, getD, length-append, List·getD-append}
 use Rattle.indexed.specs.List.{tabulate, blocks, total}
 use Rattle.indexed.proofs.Tabulate.{length-tabulate, getD-tabulate}
 use Rattle.indexed.proofs.Joined.{length-joined}
-use Rattle.indexed.proofs.Total.{total-same, total-twice}
+use Rattle.indexed.proofs.Total.{total-same, total-within, total-digits, total-twice}
 use Rattle.register.specs.Bit.{bit}
+use Rattle.register.proofs.Bit.{bit-lt}
 use Rattle.register.proofs.Ones.{bit-of-tabulate}
 use Rattle.sense_log.specs.Back.{groupBit, standingBits}
 use Rattle.sense_log.specs.Log.{bitMapLength, standing, bitMapByte, bitMap, mapBytes, logOf}
 use Rattle.sense_log.proofs.Standing.{standing-lt, length-mapBytes}
+
+-- ---- of any log
+
+module _ (log : List ℕ) where
+  pub group-bit-lt : (g : ℕ) → groupBit log g < 2
+  unfolding groupBit
+  group-bit-lt g = bit-lt (g % 8) (getD log (g / 8) 0)
+
+  -- one group more
+  pub standing-more : (g : ℕ) → standingBits log (g + 1) ≡ standingBits log g + groupBit log g
+  unfolding standingBits total
+  standing-more g = ap (λ (n : ℕ). total n (groupBit log)) (add-one g)
+
+  -- a bit a group at most, and that of each group among them
+  pub standing-le : (groups : ℕ) → standingBits log groups ≤ groups
+  unfolding standingBits
+  standing-le groups = total-digits groups (groupBit log) group-bit-lt
+
+  pub standing-within : (groups g : ℕ) → g < groups → standingBits log g + groupBit log g ≤ standingBits log groups
+  unfolding standingBits
+  standing-within groups g h = total-within groups (groupBit log) g h
+
+  -- the groups of byte b
+  pub group-bit-in : (b k : ℕ) → k < 8 → groupBit log (8 * b + k) ≡ bit k (getD log b 0)
+  unfolding groupBit
+  group-bit-in b k h =
+      let place : (8 * b + k) % 8 ≡ k = omega arith in
+      let byte : (8 * b + k) / 8 ≡ b = omega arith in
+      ap₂ (λ (i j : ℕ). bit i (getD log j 0)) place byte
+
+-- ---- of a written one
 
 module _ (maps : List ℕ) where
   -- the bytes behind the bit map, of the first groups
@@ -50,6 +83,4 @@ module _ (maps : List ℕ) where
   bits-written n h = total-same n _ _ (λ g b. bit-written g (omega arith))
 
   pub bits-below : (n : ℕ) → total n bitOf ≤ n
-  unfolding total
-  bits-below zero = omega arith
-  bits-below (suc n) = omega (arith, bits-below n, standing-lt (getD maps n 0))
+  bits-below n = total-digits n bitOf (λ g. standing-lt (getD maps g 0))

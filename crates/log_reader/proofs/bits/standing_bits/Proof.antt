@@ -8,7 +8,8 @@ use lib.Count.{ones, ones-le}
 use lib.ListN.{getD}
 use Rattle.indexed.specs.List.{total}
 use Rattle.sense_log.specs.Back.{standingBits}
-use Rattle.log_reader.proofs.Standing.{standing-le, standing-byte, standing-last}
+use Rattle.sense_log.proofs.Bits.{standing-le}
+use Rattle.log_reader.proofs.Standing.{standing-byte, standing-last}
 use borrow.Author.Needs.{needs}
 use Rattle.log_reader.proofs.bits.standing_bits.Statement.{statement}
 use Rattle.log_reader.proofs.bits.standing_bits.Tie as tie

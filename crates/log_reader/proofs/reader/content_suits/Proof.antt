@@ -5,13 +5,13 @@ use mathlib.Core.Bool.{Bool, _&&_}
 use native.Mathlib.Omega.{arith}
 use denote.Ref.{now}
 use Rattle.sense_log.specs.Back.{contentSuits, mapsSuit}
-use Rattle.log_reader.proofs.Suits.{long}
+use Rattle.sense_log.proofs.Good.{length-told}
 use borrow.Author.Needs.{needs}
 use Rattle.log_reader.proofs.reader.content_suits.Statement.{statement}
 use Rattle.log_reader.proofs.reader.content_suits.Tie as tie
 
 spare-clear-requires : tie.Need-spare-clear-requires
-spare-clear-requires c κs = omega (arith, long (c .before .args .groups) (now (c .before .args .log)) (c .before .pre))
+spare-clear-requires c κs = omega (arith, length-told (c .before .args .groups) (now (c .before .args .log)) (c .before .pre) .2)
 
 maps-suit-requires : tie.Need-maps-suit-requires
 maps-suit-requires c κs = search needs

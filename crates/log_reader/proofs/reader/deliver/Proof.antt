@@ -14,9 +14,9 @@ use Rattle.indexed.proofs.Front.{tabulated-more}
 use Rattle.sense_log.specs.Back.{standingBits, storedMap, mapBack, mapsOf}
 use Rattle.sense_log.specs.Log.{bitMapLength}
 use Rattle.log_reader.specs.Pair.{pairAt}
-use Rattle.log_reader.proofs.Standing.{group-bit-lt, standing-more, standing-le}
-use Rattle.log_reader.proofs.Suits.{few-groups, long}
-use Rattle.log_reader.proofs.Answers.{map-within}
+use Rattle.sense_log.proofs.Bits.{group-bit-lt, standing-more, standing-le}
+use Rattle.sense_log.proofs.Good.{length-told}
+use Rattle.log_reader.proofs.Suits.{map-within}
 use borrow.Author.Needs.{needs}
 use Rattle.log_reader.proofs.reader.deliver.Statement.{statement}
 use Rattle.log_reader.proofs.reader.deliver.Tie as tie
@@ -29,7 +29,7 @@ abbrev μ-loop : tie.MeasureT-loop
 
 bit-map-length-requires : tie.Need-bit-map-length-requires Inv-loop μ-loop
 bit-map-length-requires c κs =
-    let start = c .before .before in few-groups (start .args .groups) (now (start .args .log)) (start .pre .0)
+    let start = c .before .before in length-told (start .args .groups) (now (start .args .log)) (start .pre .0) .1
 
 loop-holds : tie.Need-loop-holds Inv-loop μ-loop
 unfolding standingBits total tabulate tabulateFrom
@@ -38,7 +38,7 @@ loop-holds c = (search needs, refl, omega (arith, c .bit-map-length .ensures), r
 group-bit-requires : tie.Need-group-bit-requires Inv-loop μ-loop
 group-bit-requires c κs =
     let start = c .before .before .before .before .before in
-    omega (arith, long (start .args .groups) (now (start .args .log)) (start .pre .0))
+    omega (arith, length-told (start .args .groups) (now (start .args .log)) (start .pre .0) .2)
 
 map-of-group-requires : tie.Need-map-of-group-requires Inv-loop μ-loop
 map-of-group-requires c κs stands =
@@ -65,7 +65,7 @@ add-at c =
     let start = at .before .before .before .before in
     let groups = start .args .groups in
     let log = now (start .args .log) in
-    omega (arith, at .loop .inv .2, standing-le log (at .loop .g), few-groups groups log (start .pre .0), c .before .group-bit .ensures, group-bit-lt log (at .loop .g))
+    omega (arith, at .loop .inv .2, standing-le log (at .loop .g), length-told groups log (start .pre .0) .1, c .before .group-bit .ensures, group-bit-lt log (at .loop .g))
 
 add-g : tie.Need-add-g Inv-loop μ-loop
 add-g c = search needs

@@ -6,7 +6,7 @@ use native.Mathlib.Omega.{arith}
 use denote.Ref.{now}
 use lib.Dec.{eqb}
 use lib.ListN.{length}
-use Rattle.log_reader.proofs.Standing.{standing-le}
+use Rattle.sense_log.proofs.Bits.{standing-le}
 use Rattle.log_reader.proofs.Suits.{no-groups, many-groups, no-bit-map, by-length}
 use borrow.Author.Needs.{needs}
 use Rattle.log_reader.proofs.reader.length_suits.Statement.{statement}

@@ -9,7 +9,8 @@ use denote.Ref.{now}
 use Rattle.indexed.proofs.Below.{one-more-below}
 use Rattle.sense_log.specs.Back.{standingBits, storedMap}
 use Rattle.log_reader.specs.Pair.{pairAt}
-use Rattle.log_reader.proofs.Suits.{suited, few-groups, long, maps-stored, map-none, map-stray, map-right, one-unsuited, all-suited}
+use Rattle.sense_log.proofs.Good.{length-told}
+use Rattle.log_reader.proofs.Suits.{suited, maps-stored, map-none, map-stray, map-right, one-unsuited, all-suited}
 use borrow.Author.Needs.{needs}
 use Rattle.log_reader.proofs.stored.maps_suit.Statement.{statement}
 use Rattle.log_reader.proofs.stored.maps_suit.Tie as tie
@@ -21,12 +22,12 @@ abbrev μ-loop : tie.MeasureT-loop
 μ-loop groups log front count k₀ k = count - k
 
 bit-map-length-requires : tie.Need-bit-map-length-requires Inv-loop μ-loop
-bit-map-length-requires c κs = few-groups (c .before .args .groups) (now (c .before .args .log)) (c .before .pre)
+bit-map-length-requires c κs = length-told (c .before .args .groups) (now (c .before .args .log)) (c .before .pre) .1
 
 sub-count : tie.Need-sub-count Inv-loop μ-loop
 sub-count c =
     let start = c .before .before in
-    omega (arith, long (start .args .groups) (now (start .args .log)) (start .pre))
+    omega (arith, length-told (start .args .groups) (now (start .args .log)) (start .pre) .2)
 
 loop-holds : tie.Need-loop-holds Inv-loop μ-loop
 loop-holds c = (search needs, λ j h. absurd (not-suc-le-zero h))

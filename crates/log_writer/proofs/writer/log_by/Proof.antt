@@ -46,14 +46,19 @@ returns c =
     (ap (logged (length (readingLog (args .backward) (now (args .words)) (now (args .maps)))))
     (length-refused (args .backward) (now (args .words)) (now (args .maps)) _ unsuited))
 
-add-if2 : tie.Need-add-if2
-add-if2 c = omega (arith, lengths-told _ _ (sym (c .before .lengths-suit .ensures) ∙ not-false _ (c .if1 .left)) .1)
+bit-map-length-requires : tie.Need-bit-map-length-requires
+bit-map-length-requires c κs = lengths-told _ _ (sym (c .before .lengths-suit .ensures) ∙ not-false _ (c .if1 .left)) .1
 
 mul-if2 : tie.Need-mul-if2
-mul-if2 c = omega (arith, lengths-told _ _ (sym (c .before .lengths-suit .ensures) ∙ not-false _ (c .if1 .left)) .1)
+mul-if2 c = omega (arith, lengths-told _ _ (sym (c .before .before .lengths-suit .ensures) ∙ not-false _ (c .before .if1 .left)) .1)
 
-add-if2-2 : tie.Need-add-if2-2
-add-if2-2 c = omega (arith, lengths-told _ _ (sym (c .before .lengths-suit .ensures) ∙ not-false _ (c .if1 .left)) .1)
+add-if2 : tie.Need-add-if2
+add-if2 c =
+    omega (
+      arith,
+      c .bit-map-length .ensures,
+      lengths-told _ _ (sym (c .before .before .lengths-suit .ensures) ∙ not-false _ (c .before .if1 .left)) .1,
+    )
 
 refused-requires-2 : tie.Need-refused-requires-2
 refused-requires-2 c κs = search needs
@@ -61,16 +66,18 @@ refused-requires-2 c κs = search needs
 returns-2 : tie.Need-returns-2
 unfolding answerTo resultOf logAnswer
 returns-2 c =
-    let args = c .before .before .before .before .before .before .before .before .args in
-    let suits = sym (c .before .before .before .lengths-suit .ensures) ∙ not-false _ (c .before .before .if1 .left) in
+    let sized = c .before .before in
+    let args = sized .before .before .before .before .before .before .before .args in
+    let suits = sym (sized .before .before .lengths-suit .ensures) ∙ not-false _ (sized .before .if1 .left) in
     refused-with-terms _ _ (log (args .backward) (now (args .words)) (now (args .maps))) _ _ (c .refused2 .ensures)
     (ap (logged (length (readingLog (args .backward) (now (args .words)) (now (args .maps)))))
-    (space-refused (args .backward) (now (args .words)) (now (args .maps)) _ suits (lt-leb (logSpace (length (now (args .maps)))) (length (now (args .log))) (omega (arith, c .before .if2 .taken)))))
+    (space-refused (args .backward) (now (args .words)) (now (args .maps)) _ suits (lt-leb (logSpace (length (now (args .maps)))) (length (now (args .log))) (omega (arith, c .before .if2 .taken, sized .bit-map-length .ensures)))))
 
 log-sized-requires : tie.Need-log-sized-requires
 log-sized-requires c κs =
-    let suits = sym (c .before .before .before .lengths-suit .ensures) ∙ not-false _ (c .before .before .if1 .left) in
-    (suits, omega (arith, c .before .if2 .left), c .before .before .before .before .before .before .before .before .pre)
+    let sized = c .before .before in
+    let suits = sym (sized .before .before .lengths-suit .ensures) ∙ not-false _ (sized .before .if1 .left) in
+    (suits, omega (arith, c .before .if2 .left, sized .bit-map-length .ensures), sized .before .before .before .before .before .before .before .pre)
 
 same-length : tie.Need-same-length
 same-length c = search needs
@@ -78,7 +85,8 @@ same-length c = search needs
 returns-3 : tie.Need-returns-3
 returns-3 c =
     let done = c .before .before .log-sized .ensures in
-    with-space _ _ _ _ _ _ (omega (arith, c .before .before .before .before .if2 .left)) (done .0) (done .1)
+    let asked = c .before .before .before .before in
+    with-space _ _ _ _ _ _ (omega (arith, asked .if2 .left, asked .before .bit-map-length .ensures)) (done .0) (done .1)
 
 pub log-by-spec : {M : Type 1} → statement M
 log-by-spec =
@@ -87,9 +95,9 @@ log-by-spec =
     lengths-suit-requires
     refused-requires
     returns
-    add-if2
+    bit-map-length-requires
     mul-if2
-    add-if2-2
+    add-if2
     refused-requires-2
     returns-2
     log-sized-requires
