@@ -3,6 +3,7 @@
 // calls, `Called`: the answer, the figures that are stored, the output, and the notice's terms.
 mod at6250;
 mod at800;
+mod log;
 mod order;
 
 use answer::Refusal;
@@ -21,7 +22,7 @@ fn refused_status(refusal: Refusal, place: &mut usize) -> u16
     reason.number()
 }
 
-// The answer for a written record as numbers, at either density: what is counted is its groups or its characters.
+// The answer for a written record or log as numbers: what is counted is its groups, its characters or its bytes.
 fn written_status(answer: Written, count: &mut usize, place: &mut usize) -> u16
     ensures { λ r. ⌜ Told (toldWritten answer) (now (count .entry) ∷ []) (now (count .exit) ∷ []) r (now (place .exit)) ⌝ }
 {
