@@ -225,17 +225,11 @@ pub fn random_readings(direction: Direction) -> Tried {
     for case in 0..CASES {
         let reading = random_reading(&mut seeded, case);
         let space = seeded.space((7 * reading.maps.len()).saturating_sub(1));
-        match compare(&mut tried, direction, reading, space) {
-            Answer::Delivered(values) => {
-                answers[0] += 1;
-                changed += usize::from(values[1] > 0);
-            }
-            Answer::Refused(number, _) => answers[usize::from(number)] += 1,
-        }
+        let answer = compare(&mut tried, direction, reading, space);
+        answers[answer.number()] += 1;
+        changed += usize::from(matches!(answer, Answer::Delivered(values) if values[1] > 0));
     }
-    tried.remarks.push(format!("answers 0 (delivered) to 6: {answers:?}; deliveries with changed words: {changed}"));
-    for number in (0..7).filter(|&number| answers[number] == 0) {
-        tried.wrong.push(format!("no case is answered by {number}"));
-    }
+    tried.tell_answers(&answers, &[0, 1, 2, 3, 4, 5, 6]);
+    tried.remarks.push(format!("deliveries with changed words: {changed}"));
     tried
 }

@@ -9,6 +9,16 @@ pub enum Answer {
     Refused(u16, usize),
 }
 
+impl Answer {
+    /// The refusal's number, or 0.
+    pub fn number(&self) -> usize {
+        match self {
+            Answer::Delivered(_) => 0,
+            Answer::Refused(number, _) => usize::from(*number),
+        }
+    }
+}
+
 #[derive(Clone, Copy, Debug)]
 pub enum Toward {
     Physical,

@@ -60,6 +60,23 @@ struct Tried {
     remarks: Vec<String>,
 }
 
+impl Tried {
+    fn expect(&mut self, name: &str, holds: bool) {
+        self.cases += 1;
+        if !holds {
+            self.wrong.push(name.to_string());
+        }
+    }
+
+    /// Tells how often each number was the answer, and finds fault if one of those that must occur never did.
+    fn tell_answers(&mut self, answers: &[usize], needed: &[usize]) {
+        self.remarks.push(format!("answers 0 (delivered) to {}: {answers:?}", answers.len() - 1));
+        for number in needed.iter().filter(|&&number| answers[number] == 0) {
+            self.wrong.push(format!("no case is answered by {number}"));
+        }
+    }
+}
+
 fn vector_file(name: &str, run: impl Fn(&str) -> Result<(), String>) -> Tried {
     let path = format!("{}/../vectors/{name}", env!("CARGO_MANIFEST_DIR"));
     let text = std::fs::read_to_string(&path).expect("the vectors are in the repository");
