@@ -7,6 +7,7 @@ mod damage6250;
 mod damage800;
 mod head_order;
 mod library;
+mod programs;
 mod reading6250;
 mod reading800;
 mod record6250;
@@ -164,32 +165,6 @@ fn random_writes() -> Tried {
     tried
 }
 
-/// The listing program on data of the lengths that matter.
-fn listing() -> Tried {
-    use std::io::Write;
-    use std::process::{Command, Stdio};
-    let program = concat!(env!("CARGO_MANIFEST_DIR"), "/../../target/bin/listing");
-    let mut seeded = Seeded(1);
-    let mut tried = Tried::default();
-    for length in [0, 1, 6, 7, 8, 13, 14, 4101, 4102, 10_000] {
-        tried.cases += 1;
-        let bytes: Vec<u8> = (0..length).map(|_| seeded.next() as u8).collect();
-        let mut child = Command::new(program).stdin(Stdio::piped()).stdout(Stdio::piped()).spawn().expect("the listing program is built");
-        // the program stops reading once it has a byte too many, so a write that fails is no fault
-        let _ = child.stdin.take().unwrap().write_all(&bytes);
-        let printed = String::from_utf8(child.wait_with_output().unwrap().stdout).unwrap();
-        let lines: String = record6250::written(&bytes)
-            .chunks(9)
-            .map(|words| words.iter().map(u16::to_string).collect::<Vec<_>>().join(" ") + "\n")
-            .collect();
-        let want = if length > 4101 { "refused 1 0\n".to_string() } else { lines };
-        if printed != want {
-            tried.wrong.push(format!("listing of {length} bytes"));
-        }
-    }
-    tried
-}
-
 /// A suite's name and what it tried.
 type Suite = (&'static str, Tried);
 
@@ -205,7 +180,7 @@ fn suites_at_6250() -> Vec<Suite> {
         ("every number in a group at 6250, backward", damage6250::every_number(Direction::Backward)),
         ("seeded readings at 6250, forward", damage6250::random_readings(Direction::Forward)),
         ("seeded readings at 6250, backward", damage6250::random_readings(Direction::Backward)),
-        ("the listing program", listing()),
+        ("the listing program", programs::listing()),
     ]
 }
 
