@@ -1,4 +1,4 @@
-//! Tests of the proved archive from outside: the outside cases of tests/vectors, and comparisons
+//! Tests of the proved archive and of the programs from outside: the outside cases of tests/vectors, and comparisons
 //! with implementations that share nothing with the library. The last line is `N passed, M failed`.
 
 mod abi;
@@ -78,19 +78,6 @@ impl Tried {
     }
 }
 
-fn vector_file(name: &str, run: impl Fn(&str) -> Result<(), String>) -> Tried {
-    let path = format!("{}/../vectors/{name}", env!("CARGO_MANIFEST_DIR"));
-    let text = std::fs::read_to_string(&path).expect("the vectors are in the repository");
-    let mut tried = Tried::default();
-    for line in text.lines() {
-        tried.cases += 1;
-        if let Err(what) = run(line) {
-            tried.wrong.push(format!("{line}: {what}"));
-        }
-    }
-    tried
-}
-
 fn every_map(toward: Toward) -> Tried {
     let mut tried = Tried::default();
     for map in 0..=u16::MAX {
@@ -166,13 +153,21 @@ fn random_writes() -> Tried {
 }
 
 /// A suite's name and what it tried.
-type Suite = (&'static str, Tried);
+type Suite = (String, Tried);
+
+fn named<const COUNT: usize>(suites: [(&str, Tried); COUNT]) -> Vec<Suite> {
+    suites.into_iter().map(|(name, tried)| (name.to_string(), tried)).collect()
+}
+
+/// Every row of the outside cases, whatever its kind.
+fn outside_cases() -> Vec<Suite> {
+    let suite = |kind: String| (format!("{kind}, outside cases"), vectors::of_kind(&kind, vectors::run));
+    vectors::kinds().into_iter().map(suite).collect()
+}
 
 fn suites_at_6250() -> Vec<Suite> {
-    vec![
-        ("writing at 6250, outside cases", vector_file("write6250.txt", vectors::run)),
-        ("reading at 6250, outside cases", vector_file("read6250.txt", vectors::run)),
-        ("the 6250 reader of these tests, outside cases", vector_file("read6250.txt", |line| vectors::read6250(line, reading6250::read))),
+    named([
+        ("the 6250 reader of these tests, outside cases", vectors::of_kind("read6250", |line| vectors::read6250(line, reading6250::read))),
         ("the 6250 reader of these tests, without its short cuts", short_cuts::groups()),
         ("bench readings at 6250", bench::readings6250()),
         ("seeded writes at 6250", random_writes()),
@@ -181,15 +176,13 @@ fn suites_at_6250() -> Vec<Suite> {
         ("seeded readings at 6250, forward", damage6250::random_readings(Direction::Forward)),
         ("seeded readings at 6250, backward", damage6250::random_readings(Direction::Backward)),
         ("the listing program", programs::listing()),
-    ]
+    ])
 }
 
 fn suites_at_800() -> Vec<Suite> {
-    vec![
-        ("writing at 800, outside cases", vector_file("write800.txt", vectors::run)),
-        ("reading at 800, outside cases", vector_file("read800.txt", vectors::run)),
-        ("the 800 writer of these tests, outside cases", vector_file("write800.txt", |line| vectors::write800(line, record800::write))),
-        ("the 800 reader of these tests, outside cases", vector_file("read800.txt", |line| vectors::read800(line, reading800::read))),
+    named([
+        ("the 800 writer of these tests, outside cases", vectors::of_kind("write800", |line| vectors::write800(line, record800::write))),
+        ("the 800 reader of these tests, outside cases", vectors::of_kind("read800", |line| vectors::read800(line, reading800::read))),
         ("the 800 reader of these tests, without its short cut", short_cuts::records()),
         ("bench readings at 800", bench::readings800()),
         ("seeded writes at 800", damage800::random_writes()),
@@ -199,21 +192,20 @@ fn suites_at_800() -> Vec<Suite> {
         ("every choice of wrong characters at 800, backward", damage800::every_choice(Direction::Backward)),
         ("seeded readings at 800, forward", damage800::random_readings(Direction::Forward)),
         ("seeded readings at 800, backward", damage800::random_readings(Direction::Backward)),
-    ]
+    ])
 }
 
 fn suites_of_head_order() -> Vec<Suite> {
-    vec![
-        ("head order, outside cases", vector_file("head_order.txt", vectors::run)),
+    named([
         ("every map to physical", every_map(Toward::Physical)),
         ("every map to algebraic", every_map(Toward::Algebraic)),
         ("seeded words to physical", random_words(Toward::Physical)),
         ("seeded words to algebraic", random_words(Toward::Algebraic)),
-    ]
+    ])
 }
 
 fn main() {
-    let suites: Vec<Suite> = [suites_at_6250(), suites_at_800(), suites_of_head_order()].into_iter().flatten().collect();
+    let suites: Vec<Suite> = [outside_cases(), suites_at_6250(), suites_at_800(), suites_of_head_order()].into_iter().flatten().collect();
     let mut failed = 0;
     for (name, tried) in &suites {
         println!("{name}: {} cases, {} differ", tried.cases, tried.wrong.len());
