@@ -5,6 +5,7 @@ mod abi;
 mod bench;
 mod damage6250;
 mod damage800;
+mod damage_log;
 mod head_order;
 mod library;
 mod programs;
@@ -12,7 +13,9 @@ mod reading6250;
 mod reading800;
 mod record6250;
 mod record800;
+mod sense_log;
 mod short_cuts;
+mod spoiled_log;
 mod vectors;
 
 use library::{Direction, Toward};
@@ -179,6 +182,20 @@ fn suites_at_6250() -> Vec<Suite> {
     ])
 }
 
+fn suites_of_the_log() -> Vec<Suite> {
+    named([
+        ("the log of these tests, outside cases", vectors::of_kind("log", |line| vectors::read6250(line, sense_log::write))),
+        ("the log read back by these tests, outside cases", vectors::of_kind("read-log", |line| vectors::read_log(line, sense_log::read_back))),
+        ("the log read back by these tests, small logs", spoiled_log::small_logs(sense_log::read_back, 0..=7)),
+        ("logs with every word in a group, forward", damage_log::every_word(Direction::Forward)),
+        ("logs with every word in a group, backward", damage_log::every_word(Direction::Backward)),
+        ("logs of seeded readings, forward", damage_log::random_readings(Direction::Forward)),
+        ("logs of seeded readings, backward", damage_log::random_readings(Direction::Backward)),
+        ("small logs read back", spoiled_log::small_logs(library::read_log, 0..=255)),
+        ("seeded logs read back", spoiled_log::random_logs()),
+    ])
+}
+
 fn suites_at_800() -> Vec<Suite> {
     named([
         ("the 800 writer of these tests, outside cases", vectors::of_kind("write800", |line| vectors::write800(line, record800::write))),
@@ -205,7 +222,7 @@ fn suites_of_head_order() -> Vec<Suite> {
 }
 
 fn main() {
-    let suites: Vec<Suite> = [outside_cases(), suites_at_6250(), suites_at_800(), suites_of_head_order()].into_iter().flatten().collect();
+    let suites: Vec<Suite> = [outside_cases(), suites_at_6250(), suites_of_the_log(), suites_at_800(), suites_of_head_order()].into_iter().flatten().collect();
     let mut failed = 0;
     for (name, tried) in &suites {
         println!("{name}: {} cases, {} differ", tried.cases, tried.wrong.len());

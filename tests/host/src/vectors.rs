@@ -3,6 +3,7 @@
 //! not known here fails.
 
 use crate::library::{self, Answer, Direction, Toward};
+use crate::programs::printed;
 use crate::Tried;
 use std::fmt::Debug;
 
@@ -103,8 +104,9 @@ fn direction_of(name: &str) -> Result<Direction, String> {
     }
 }
 
-/// The library's reader, or another that is to answer as it does.
+/// The library's reader, or another that is to answer as it does; a log is written from a reading by the same type.
 pub type Reader = fn(Direction, &[u16], &[u16], &mut [u8]) -> Answer;
+pub type LogReader = fn(usize, &[u8], &mut [u16]) -> Answer;
 pub type Reader800 = fn(Direction, &[u16], &mut [u8]) -> Answer;
 
 /// The same for writers.
@@ -125,7 +127,7 @@ fn write(line: &str, writer: Writer, numbers: usize) -> Result<(), String> {
     }
 }
 
-/// Runs one case of reading at 6250 with a reader and tells what differs.
+/// Runs one case of reading at 6250 with a reader, or of writing a log, and tells what differs.
 pub fn read6250(line: &str, reader: Reader) -> Result<(), String> {
     let fields = fields_of(line);
     let head = head_of(&fields);
@@ -167,6 +169,24 @@ fn map(line: &str, toward: Toward) -> Result<(), String> {
     compare(got, want, &[moved], &[after])
 }
 
+/// Runs one case of reading a log back with a reader and tells what differs.
+pub fn read_log(line: &str, reader: LogReader) -> Result<(), String> {
+    let fields = fields_of(line);
+    let head = numbers(fields[0].strip_prefix("read-log").unwrap());
+    let (groups, space) = (head[0] as usize, head[1] as usize);
+    let mut maps = lent(space, &[]);
+    let got = reader(groups, &bytes_of(fields[1]), &mut maps[..space]);
+    compare(got, answer_of(fields[2]), &maps, &lent(space, &words_of(fields.get(3).unwrap_or(&""))))
+}
+
+/// Runs one case of a program, or of another that is to print as it does, and tells what differs.
+pub fn program(line: &str, print: impl Fn(&[u8]) -> Result<String, String>) -> Result<(), String> {
+    let fields = fields_of(line);
+    let got = print(&bytes_of(fields[1]))?;
+    let want: String = fields[2].split(';').map(|line| line.trim().to_string() + "\n").collect();
+    if got == want { Ok(()) } else { Err(format!("printed {got:?}")) }
+}
+
 /// Runs one case and tells what differs.
 pub fn run(line: &str) -> Result<(), String> {
     match kind_of(line) {
@@ -178,6 +198,10 @@ pub fn run(line: &str) -> Result<(), String> {
         "to-algebraic" => words(line, Toward::Algebraic),
         "map-to-physical" => map(line, Toward::Physical),
         "map-to-algebraic" => map(line, Toward::Algebraic),
+        "listing" => program(line, |input| printed("listing", input)),
+        "log" => read6250(line, library::log6250),
+        "read-log" => read_log(line, library::read_log),
+        "report" => program(line, |input| printed("report", input)),
         other => Err(format!("these tests know no case of the kind {other}")),
     }
 }
