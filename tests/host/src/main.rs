@@ -13,6 +13,7 @@ mod reading6250;
 mod reading800;
 mod record6250;
 mod record800;
+mod report;
 mod sense_log;
 mod short_cuts;
 mod spoiled_log;
@@ -187,12 +188,14 @@ fn suites_of_the_log() -> Vec<Suite> {
         ("the log of these tests, outside cases", vectors::of_kind("log", |line| vectors::read6250(line, sense_log::write))),
         ("the log read back by these tests, outside cases", vectors::of_kind("read-log", |line| vectors::read_log(line, sense_log::read_back))),
         ("the log read back by these tests, small logs", spoiled_log::small_logs(sense_log::read_back, 0..=7)),
+        ("the report of these tests, outside cases", vectors::of_kind("report", |line| vectors::program(line, |input| Ok(report::text_for(input))))),
         ("logs with every word in a group, forward", damage_log::every_word(Direction::Forward)),
         ("logs with every word in a group, backward", damage_log::every_word(Direction::Backward)),
         ("logs of seeded readings, forward", damage_log::random_readings(Direction::Forward)),
         ("logs of seeded readings, backward", damage_log::random_readings(Direction::Backward)),
         ("small logs read back", spoiled_log::small_logs(library::read_log, 0..=255)),
         ("seeded logs read back", spoiled_log::random_logs()),
+        ("the report program", report::streams()),
     ])
 }
 
