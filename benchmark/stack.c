@@ -9,12 +9,12 @@
 enum { STACK = 1 << 20, GROUPS = 586, WORDS = 9 * GROUPS, BYTES = 4101, BYTES800 = 2048, CHARACTERS = 2050 };
 
 static unsigned char stack[STACK] __attribute__((aligned(64)));
-static uint8_t bytes[BYTES], output[7 * GROUPS];
+static uint8_t bytes[BYTES], output[7 * GROUPS], log_bytes[3 * GROUPS];
 static uint16_t words[WORDS], characters[CHARACTERS], turned[WORDS], nine[9];
 static rindthok_algebraic_map maps[GROUPS];
 enum { SIZES = 6 };
 static const size_t sizes[SIZES] = {1, 80, 400, 500, BYTES800, BYTES};
-static size_t byte_count, group_count, character_count, told[3], place;
+static size_t byte_count, group_count, character_count, log_length, told[3], place;
 
 /* What is called: the call that is measured, or what stands in for it and notes where the stack stands. */
 static void (*volatile called)(void);
@@ -23,10 +23,13 @@ extern void probe(void);
 __asm__(".globl probe\nprobe:\n\tlea 8(%rsp), %rax\n\tmov %rax, at_call(%rip)\n\tret\n");
 
 #define CALL(function) ((__typeof__(&function))called)
+#define ANY(function) ((void (*)(void))function)
 
 static void write6250(void) { CALL(rindthok_write6250)(bytes, byte_count, words, WORDS, told, &place); }
 static void write800(void) { CALL(rindthok_write800)(bytes, byte_count, characters, CHARACTERS, told, &place); }
 static void read6250(void) { CALL(rindthok_read6250_forward)(turned, 9 * group_count, maps, group_count, output, sizeof output, told, told + 1, &place); }
+static void log6250(void) { CALL(rindthok_log6250_forward)(turned, 9 * group_count, maps, group_count, output, sizeof output, told, &place); }
+static void read_log(void) { CALL(rindthok_read_log)(group_count, log_bytes, log_length, maps, GROUPS, &place); }
 static void read800(void) { CALL(rindthok_read800_forward)(turned, character_count, output, sizeof output, told, told + 1, told + 2, &place); }
 static void move_words(void) { CALL(rindthok_words_to_physical)(words, 9, nine, 9, &place); }
 static void move_map(void) { CALL(rindthok_map_to_algebraic)(5, maps, &place); }
@@ -85,26 +88,56 @@ static uint16_t reversed(uint16_t word) {
     return result;
 }
 
-/* A record of so many bytes at 6250, read without error, with a wrong track, with two pointed, and refused. */
+/* The reading of a record of so many bytes at 6250: without error (0), with a wrong track (1), with two pointed (2), and to be
+ * refused (3). */
+static void damage_at_6250(size_t data, int backward, int damage) {
+    size_t g, k;
+    rindthok_write6250(bytes, data, words, WORDS, &group_count, &place);
+    for (g = 0; g < group_count; g++) {
+        maps[g].algebraic = damage == 2 ? 17 : 0;
+        for (k = 0; k < 9; k++) {
+            size_t from = backward ? group_count - 1 - g : g;
+            int wrong = (damage > 0 && k == 4) || (damage > 1 && k == 0);
+            uint16_t word = wrong ? 825 : words[9 * from + k];
+            turned[9 * g + k] = backward ? reversed(word) : word;
+        }
+    }
+}
+
 static void read_at_6250(size_t data, int backward, void (*function)(void)) {
     int damage;
     for (damage = 0; damage < 4; damage++) {
-        size_t g, k;
-        rindthok_write6250(bytes, data, words, WORDS, &group_count, &place);
-        for (g = 0; g < group_count; g++) {
-            maps[g].algebraic = damage == 2 ? 17 : 0;
-            for (k = 0; k < 9; k++) {
-                size_t from = backward ? group_count - 1 - g : g;
-                int wrong = (damage > 0 && k == 4) || (damage > 1 && k == 0);
-                uint16_t word = wrong ? 825 : words[9 * from + k];
-                turned[9 * g + k] = backward ? reversed(word) : word;
-            }
-        }
+        damage_at_6250(data, backward, damage);
         measure(read6250, function);
     }
 }
 
-/* The same at 800: without error, with a wrong track, and refused. */
+/* The logs of the same readings. */
+static void log_at_6250(size_t data, int backward, void (*function)(void)) {
+    int damage;
+    for (damage = 0; damage < 4; damage++) {
+        damage_at_6250(data, backward, damage);
+        measure(log6250, function);
+    }
+}
+
+/* The logs of readings of all lengths, read back: without a mark, with one or two in every group, and refused. */
+static void read_logs(void) {
+    int damage;
+    size_t k;
+    for (k = 0; k < SIZES; k++) {
+        for (damage = 0; damage < 3; damage++) {
+            damage_at_6250(sizes[k], 0, damage);
+            rindthok_log6250_forward(turned, 9 * group_count, maps, group_count, log_bytes, sizeof log_bytes, &log_length, &place);
+            measure(read_log, ANY(rindthok_read_log));
+            log_bytes[log_length - 1] = 2;
+            measure(read_log, ANY(rindthok_read_log));
+        }
+    }
+    tell("read log");
+}
+
+/* A record of so many bytes at 800, read without error, with a wrong track, and refused. */
 static void read_at_800(size_t data, int backward, void (*function)(void)) {
     int damage;
     for (damage = 0; damage < 3; damage++) {
@@ -131,16 +164,17 @@ static void reads(const char *forward, const char *backward, size_t limit, void 
     }
 }
 
-#define ANY(function) ((void (*)(void))function)
-
 int main(void) {
     static void (*at6250[])(void) = {ANY(rindthok_read6250_forward), ANY(rindthok_read6250_backward)};
+    static void (*logs[])(void) = {ANY(rindthok_log6250_forward), ANY(rindthok_log6250_backward)};
     static void (*at800[])(void) = {ANY(rindthok_read800_forward), ANY(rindthok_read800_backward)};
     size_t k;
     for (k = 0; k < BYTES; k++)
         bytes[k] = (uint8_t)(k * 167 + k / 256);
     writes("write6250", BYTES, write6250, ANY(rindthok_write6250));
     reads("read6250 forward", "read6250 backward", BYTES, read_at_6250, at6250);
+    reads("log6250 forward", "log6250 backward", BYTES, log_at_6250, logs);
+    read_logs();
     writes("write800", BYTES800, write800, ANY(rindthok_write800));
     reads("read800 forward", "read800 backward", BYTES800, read_at_800, at800);
     measure(move_words, ANY(rindthok_words_to_physical));

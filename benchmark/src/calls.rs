@@ -24,6 +24,20 @@ pub fn read6250<const BACKWARD: bool>(words: &[u16], maps: &[u16], output: &mut 
     answer(status, place, [size, changes, 0])
 }
 
+pub fn log6250<const BACKWARD: bool>(words: &[u16], maps: &[u16], log: &mut [u8]) -> Answer {
+    let (mut length, mut place) = (0, 0);
+    let call = if BACKWARD { rindthok_log6250_backward } else { rindthok_log6250_forward };
+    let (from, pointers, to) = (words.as_ptr(), maps.as_ptr(), log.as_mut_ptr());
+    let status = unsafe { call(from, words.len(), pointers, maps.len(), to, log.len(), &mut length, &mut place) };
+    answer(status, place, [length, 0, 0])
+}
+
+pub fn read_log(groups: usize, log: &[u8], maps: &mut [u16]) -> Answer {
+    let mut place = 0;
+    let status = unsafe { rindthok_read_log(groups, log.as_ptr(), log.len(), maps.as_mut_ptr(), maps.len(), &mut place) };
+    answer(status, place, [0; 3])
+}
+
 pub fn write800(bytes: &[u8], characters: &mut [u16]) -> Answer {
     let (mut count, mut place) = (0, 0);
     let (from, to) = (bytes.as_ptr(), characters.as_mut_ptr());

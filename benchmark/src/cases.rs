@@ -1,6 +1,6 @@
 //! What is measured: records of two lengths at each density, clean and damaged, forward and backward.
 
-use crate::{calls, fast6250, fast800, fast_order, Answer};
+use crate::{calls, fast6250, fast800, fast_log, fast_order, Answer};
 
 /// A seeded generator (splitmix64), so that every run measures the same records.
 pub struct Seeded(pub u64);
@@ -32,16 +32,20 @@ pub enum Damage {
 pub enum Call {
     Write6250,
     Read6250 { backward: bool, damage: Damage },
+    Log6250 { backward: bool, damage: Damage },
+    /// The log of a clean reading, or of one with a mark in every group.
+    ReadLog { marked: bool },
     Write800,
     Read800 { backward: bool, damage: Damage },
     Order { physical: bool },
 }
 
-/// One record: its data, what lies on tape, and the maps.
+/// One record: its data, what lies on tape, the maps, and at 6250 the log of the reading.
 pub struct Record {
     pub data: Vec<u8>,
     pub tape: Vec<u16>,
     pub maps: Vec<u16>,
+    pub log: Vec<u8>,
 }
 
 fn data(seeded: &mut Seeded, length: usize) -> Vec<u8> {
@@ -57,6 +61,15 @@ fn other_word(seeded: &mut Seeded, word: u16) -> u16 {
             return words[1];
         }
     }
+}
+
+fn log_of(tape: &[u16], maps: &[u16], backward: bool) -> Vec<u8> {
+    let mut log = vec![0; 3 * maps.len()];
+    let Answer::Delivered([length, ..]) = RUST.log6250[usize::from(backward)](tape, maps, &mut log) else {
+        panic!("every record that is measured is delivered");
+    };
+    log.truncate(length);
+    log
 }
 
 fn record6250(seeded: &mut Seeded, length: usize, backward: bool, damage: Damage) -> Record {
@@ -81,7 +94,8 @@ fn record6250(seeded: &mut Seeded, length: usize, backward: bool, damage: Damage
         maps.reverse();
         tape = tape.chunks(9).rev().flatten().map(|word| word.reverse_bits() >> 6).collect();
     }
-    Record { data, tape, maps }
+    let log = log_of(&tape, &maps, backward);
+    Record { data, tape, maps, log }
 }
 
 fn record800(seeded: &mut Seeded, length: usize, backward: bool, damage: Damage) -> Record {
@@ -97,35 +111,41 @@ fn record800(seeded: &mut Seeded, length: usize, backward: bool, damage: Damage)
     if backward {
         tape.reverse();
     }
-    Record { data, tape, maps: vec![] }
+    Record { data, tape, maps: vec![], log: vec![] }
+}
+
+/// A reading's direction and damage.
+pub fn reading(backward: bool, damage: Damage) -> String {
+    let direction = if backward { "backward" } else { "forward" };
+    let damage = match damage {
+        Damage::Clean => "clean",
+        Damage::OneTrack => "one track wrong",
+        Damage::TwoPointed => "two pointed",
+    };
+    format!("{direction}, {damage}")
 }
 
 impl Call {
     pub fn record(self, seeded: &mut Seeded, length: usize) -> Record {
         match self {
             Call::Write6250 => record6250(seeded, length, false, Damage::Clean),
-            Call::Read6250 { backward, damage } => record6250(seeded, length, backward, damage),
+            Call::Read6250 { backward, damage } | Call::Log6250 { backward, damage } => record6250(seeded, length, backward, damage),
+            Call::ReadLog { marked } => record6250(seeded, length, false, if marked { Damage::OneTrack } else { Damage::Clean }),
             Call::Write800 => record800(seeded, length, false, Damage::Clean),
             Call::Read800 { backward, damage } => record800(seeded, length, backward, damage),
-            Call::Order { .. } => Record { data: vec![], tape: (0..9).map(|_| seeded.below(1024) as u16).collect(), maps: vec![] },
+            Call::Order { .. } => Record { data: vec![], tape: (0..9).map(|_| seeded.below(1024) as u16).collect(), maps: vec![], log: vec![] },
         }
     }
 
     pub fn name(self) -> String {
-        let read = |density, backward, damage| {
-            let direction = if backward { "backward" } else { "forward" };
-            let damage = match damage {
-                Damage::Clean => "clean",
-                Damage::OneTrack => "one track wrong",
-                Damage::TwoPointed => "two pointed",
-            };
-            format!("read {density} {direction}, {damage}")
-        };
         match self {
             Call::Write6250 => "write 6250".to_string(),
             Call::Write800 => "write 800".to_string(),
-            Call::Read6250 { backward, damage } => read(6250, backward, damage),
-            Call::Read800 { backward, damage } => read(800, backward, damage),
+            Call::Read6250 { backward, damage } => format!("read 6250 {}", reading(backward, damage)),
+            Call::Log6250 { backward, damage } => format!("log 6250 {}", reading(backward, damage)),
+            Call::ReadLog { marked: false } => "read log, clean".to_string(),
+            Call::ReadLog { marked: true } => "read log, one mark in every group".to_string(),
+            Call::Read800 { backward, damage } => format!("read 800 {}", reading(backward, damage)),
             Call::Order { physical: true } => "nine words to head order".to_string(),
             Call::Order { physical: false } => "nine words to code order".to_string(),
         }
@@ -136,6 +156,8 @@ impl Call {
         match self {
             Call::Write6250 => (by.write6250)(&record.data, words),
             Call::Read6250 { backward, .. } => by.read6250[usize::from(backward)](&record.tape, &record.maps, bytes),
+            Call::Log6250 { backward, .. } => by.log6250[usize::from(backward)](&record.tape, &record.maps, bytes),
+            Call::ReadLog { .. } => (by.read_log)(record.maps.len(), &record.log, words),
             Call::Write800 => (by.write800)(&record.data, words),
             Call::Read800 { backward, .. } => by.read800[usize::from(backward)](&record.tape, bytes),
             Call::Order { physical } => by.order[usize::from(physical)](&record.tape, words),
@@ -147,6 +169,8 @@ impl Call {
 pub struct Implementation {
     write6250: fn(&[u8], &mut [u16]) -> Answer,
     read6250: [fn(&[u16], &[u16], &mut [u8]) -> Answer; 2],
+    log6250: [fn(&[u16], &[u16], &mut [u8]) -> Answer; 2],
+    read_log: fn(usize, &[u8], &mut [u16]) -> Answer,
     write800: fn(&[u8], &mut [u16]) -> Answer,
     read800: [fn(&[u16], &mut [u8]) -> Answer; 2],
     order: [fn(&[u16], &mut [u16]) -> Answer; 2],
@@ -155,6 +179,8 @@ pub struct Implementation {
 pub const LIBRARY: Implementation = Implementation {
     write6250: calls::write6250,
     read6250: [calls::read6250::<false>, calls::read6250::<true>],
+    log6250: [calls::log6250::<false>, calls::log6250::<true>],
+    read_log: calls::read_log,
     write800: calls::write800,
     read800: [calls::read800::<false>, calls::read800::<true>],
     order: [calls::words_to_algebraic, calls::words_to_physical],
@@ -163,6 +189,8 @@ pub const LIBRARY: Implementation = Implementation {
 pub const RUST: Implementation = Implementation {
     write6250: fast6250::write,
     read6250: [fast6250::read::<false>, fast6250::read::<true>],
+    log6250: [fast_log::write::<false>, fast_log::write::<true>],
+    read_log: fast_log::read_back,
     write800: fast800::write,
     read800: [fast800::read::<false>, fast800::read::<true>],
     order: [fast_order::to_algebraic, fast_order::to_physical],

@@ -4,7 +4,7 @@
 use crate::Answer;
 
 const CODES: [u16; 16] = [25, 27, 18, 19, 29, 21, 22, 23, 26, 9, 10, 11, 30, 13, 14, 15];
-const MOST_GROUPS: usize = 586;
+pub const MOST_GROUPS: usize = 586;
 
 /// X times a byte modulo g.
 const fn shifted(a: u8) -> u8 {
@@ -143,10 +143,10 @@ const fn reductions() -> [u8; 128] {
 
 static CONTRIBUTIONS: [[u64; 256]; 7] = contributions();
 static WORDS: [u16; 256] = words();
-static VALUES: [[u16; 1024]; 2] = [values(false), values(true)];
-static SPREADS: [[u64; 1024]; 2] = [spreads(false), spreads(true)];
-static REDUCTIONS: [u8; 128] = reductions();
-static BYTE_SPREADS: [u64; 256] = byte_spreads();
+pub static VALUES: [[u16; 1024]; 2] = [values(false), values(true)];
+pub static SPREADS: [[u64; 1024]; 2] = [spreads(false), spreads(true)];
+pub static REDUCTIONS: [u8; 128] = reductions();
+pub static BYTE_SPREADS: [u64; 256] = byte_spreads();
 static POWERS: [[u8; 8]; 256] = powers(false);
 static BACK: [[u8; 8]; 256] = powers(true);
 static ERASURES: [[u8; 256]; 8] = erasures();
@@ -186,7 +186,7 @@ pub fn write(bytes: &[u8], words: &mut [u16]) -> Answer {
     Answer::Delivered([groups, 0, 0])
 }
 
-fn stray(words: &[u16], maps: &[u16], backward: bool) -> Option<usize> {
+pub fn stray(words: &[u16], maps: &[u16], backward: bool) -> Option<usize> {
     if words.iter().fold(0, |all, &word| all | word) < 1024 && maps.iter().fold(0, |all, &map| all | map) < 512 {
         return None;
     }
@@ -211,7 +211,7 @@ fn located(s1: u8, s2: u8) -> Option<usize> {
 }
 
 /// The errors in two tracks, of which the second may be none, or the refusal.
-fn errors(pointers: u16, s1: u8, s2: u8) -> Result<[(usize, u8); 2], u16> {
+pub fn errors(pointers: u16, s1: u8, s2: u8) -> Result<[(usize, u8); 2], u16> {
     let first = pointers.trailing_zeros() as usize;
     match pointers.count_ones() {
         0 => located(s1, s2).map(|track| [(track, s1), (8, 0)]).ok_or(5),
@@ -227,7 +227,7 @@ fn errors(pointers: u16, s1: u8, s2: u8) -> Result<[(usize, u8); 2], u16> {
     }
 }
 
-fn illegal_map(words: &[u16; 9], direction: usize) -> u16 {
+pub fn illegal_map(words: &[u16; 9], direction: usize) -> u16 {
     (0..9).fold(0, |map, j| map | (VALUES[direction][words[j] as usize & 1023] >> 8) << j)
 }
 

@@ -10,10 +10,11 @@ mod calls;
 mod cases;
 mod fast6250;
 mod fast800;
+mod fast_log;
 mod fast_order;
 mod picture;
 
-use cases::{Call, Damage, Record, Seeded, LIBRARY, RUST};
+use cases::{reading, Call, Damage, Implementation, Record, Seeded, LIBRARY, RUST};
 use std::hint::black_box;
 use std::time::Instant;
 
@@ -32,7 +33,7 @@ const ROUNDS: usize = 250;
 
 /// Nanoseconds for one record.
 pub struct Measured {
-    pub name: String,
+    pub call: Call,
     pub length: usize,
     pub library: f64,
     pub fast: f64,
@@ -65,22 +66,29 @@ fn compared(call: Call, length: usize) -> Vec<Record> {
     records
 }
 
+/// So many times over the records, that a round of short ones is long enough to be timed.
+fn repeats(length: usize) -> usize {
+    (40_000 / (length + 20) / RECORDS).max(1)
+}
+
+/// The call by an implementation, over all records.
+#[inline(always)]
+fn timed(call: Call, by: &Implementation, records: &[Record], repeats: usize, words: &mut [u16], bytes: &mut [u8]) -> f64 {
+    nanoseconds(repeats, || {
+        for record in records {
+            black_box(call.run(by, black_box(record), words, bytes));
+        }
+    })
+}
+
 fn measured(call: Call, length: usize) -> Measured {
     let records = compared(call, length);
     let (mut words, mut bytes) = (vec![0; 5280], vec![0; 4104]);
-    let repeats = (40_000 / (length + 20) / RECORDS).max(1);
+    let repeats = repeats(length);
     let mut best = [f64::MAX; 3];
     for _ in 0..ROUNDS {
-        let library = nanoseconds(repeats, || {
-            for record in &records {
-                black_box(call.run(&LIBRARY, black_box(record), &mut words, &mut bytes));
-            }
-        });
-        let fast = nanoseconds(repeats, || {
-            for record in &records {
-                black_box(call.run(&RUST, black_box(record), &mut words, &mut bytes));
-            }
-        });
+        let library = timed(call, &LIBRARY, &records, repeats, &mut words, &mut bytes);
+        let fast = timed(call, &RUST, &records, repeats, &mut words, &mut bytes);
         let copy = nanoseconds(repeats, || {
             for record in &records {
                 bytes[..record.data.len()].copy_from_slice(&black_box(record).data);
@@ -91,7 +99,42 @@ fn measured(call: Call, length: usize) -> Measured {
             *least = least.min(time);
         }
     }
-    Measured { name: call.name(), length, library: best[0], fast: best[1], copy: best[2] }
+    Measured { call, length, library: best[0], fast: best[1], copy: best[2] }
+}
+
+/// A log written by the library and the same reading read by it, in turn: nanoseconds for one record.
+struct Logged {
+    name: String,
+    length: usize,
+    log: f64,
+    read: f64,
+}
+
+fn logged(backward: bool, damage: Damage, length: usize) -> Logged {
+    let [log, read] = [Call::Log6250 { backward, damage }, Call::Read6250 { backward, damage }];
+    let records = compared(log, length);
+    let (mut words, mut bytes) = (vec![0; 5280], vec![0; 4104]);
+    let mut best = [f64::MAX; 2];
+    for _ in 0..ROUNDS {
+        for (least, call) in best.iter_mut().zip([log, read]) {
+            *least = least.min(timed(call, &LIBRARY, &records, repeats(length), &mut words, &mut bytes));
+        }
+    }
+    Logged { name: reading(backward, damage), length, log: best[0], read: best[1] }
+}
+
+/// Every reading whose log is measured beside it, each by the best of all passes.
+fn best_logs() -> Vec<Logged> {
+    let readings = || [false, true].into_iter().flat_map(|backward| DAMAGES.map(|damage| (backward, damage)));
+    let pass = || readings().flat_map(|(backward, damage)| [80, 4101].map(|length| logged(backward, damage, length))).collect::<Vec<_>>();
+    let mut all = pass();
+    for _ in 1..PASSES {
+        for (least, one) in all.iter_mut().zip(pass()) {
+            least.log = least.log.min(one.log);
+            least.read = least.read.min(one.read);
+        }
+    }
+    all
 }
 
 /// The best of all passes, for each case.
@@ -108,6 +151,9 @@ fn best(cases: &[(Call, usize)]) -> Vec<Measured> {
     all
 }
 
+/// The damages at 6250.
+const DAMAGES: [Damage; 3] = [Damage::Clean, Damage::OneTrack, Damage::TwoPointed];
+
 fn readings(read: impl Fn(bool, Damage) -> Call, damages: &[Damage]) -> Vec<Call> {
     [false, true].into_iter().flat_map(|backward| damages.iter().map(move |&damage| (backward, damage))).map(|(backward, damage)| read(backward, damage)).collect()
 }
@@ -115,9 +161,12 @@ fn readings(read: impl Fn(bool, Damage) -> Call, damages: &[Damage]) -> Vec<Call
 /// Every call that is measured, with the length of its data.
 fn cases() -> Vec<(Call, usize)> {
     let at6250 = |backward, damage| Call::Read6250 { backward, damage };
+    let logged = |backward, damage| Call::Log6250 { backward, damage };
     let at800 = |backward, damage| Call::Read800 { backward, damage };
     let mut calls = vec![(Call::Write6250, 4101)];
-    calls.extend(readings(at6250, &[Damage::Clean, Damage::OneTrack, Damage::TwoPointed]).into_iter().map(|call| (call, 4101)));
+    calls.extend(readings(at6250, &DAMAGES).into_iter().map(|call| (call, 4101)));
+    calls.extend(readings(logged, &DAMAGES).into_iter().map(|call| (call, 4101)));
+    calls.extend([false, true].map(|marked| (Call::ReadLog { marked }, 4101)));
     calls.push((Call::Write800, 2048));
     calls.extend(readings(at800, &[Damage::Clean, Damage::OneTrack]).into_iter().map(|call| (call, 2048)));
     let mut all: Vec<(Call, usize)> = calls.into_iter().flat_map(|(call, full)| [(call, 80), (call, full)]).collect();
@@ -131,13 +180,18 @@ fn growing() -> Vec<(Call, usize)> {
     [1, 2, 4, 8, 16, 32, 64, 128, 256, 586].into_iter().map(|groups| (call, 7 * groups - 1)).collect()
 }
 
+/// Whether a call has a speed in bytes of data: it moves a record's data or judges its reading.
+fn has_speed(one: &Measured) -> bool {
+    one.length > 0 && !matches!(one.call, Call::ReadLog { .. })
+}
+
 fn print_table(all: &[Measured]) {
     println!("| call | bytes | library, ns | MB/s | Rust, ns | library / Rust | memcpy, ns |");
     println!("|---|---:|---:|---:|---:|---:|---:|");
     for one in all {
-        let speed = if one.length == 0 { String::new() } else { format!("{:.0}", 1000.0 * one.length as f64 / one.library) };
-        let copy = if one.length == 0 { String::new() } else { format!("{:.0}", one.copy) };
-        println!("| {} | {} | {:.0} | {} | {:.0} | {:.2} | {} |", one.name, one.length, one.library, speed, one.fast, one.library / one.fast, copy);
+        let speed = if has_speed(one) { format!("{:.0}", 1000.0 * one.length as f64 / one.library) } else { String::new() };
+        let copy = if has_speed(one) { format!("{:.0}", one.copy) } else { String::new() };
+        println!("| {} | {} | {:.0} | {} | {:.0} | {:.2} | {} |", one.call.name(), one.length, one.library, speed, one.fast, one.library / one.fast, copy);
     }
 }
 
@@ -151,6 +205,15 @@ fn print_growth(all: &[Measured]) {
     }
 }
 
+/// What a log costs beside reading the same record.
+fn print_logs(all: &[Logged]) {
+    println!("\n| log of a reading | bytes | log, ns | read, ns | log / read |");
+    println!("|---|---:|---:|---:|---:|");
+    for one in all {
+        println!("| {} | {} | {:.0} | {:.0} | {:.2} |", one.name, one.length, one.log, one.read, one.log / one.read);
+    }
+}
+
 fn main() {
     let argument = std::env::args().nth(1);
     if argument.as_deref() == Some("compare") {
@@ -161,7 +224,8 @@ fn main() {
     let all = best(&cases());
     print_table(&all);
     print_growth(&best(&growing()));
+    print_logs(&best_logs());
     if let Some(path) = argument {
-        std::fs::write(&path, picture::drawn(&all)).expect("the picture is written");
+        std::fs::write(&path, picture::drawn(&all.iter().filter(|one| has_speed(one)).collect::<Vec<_>>())).expect("the picture is written");
     }
 }

@@ -20,8 +20,7 @@ fn bar(drawn: &mut String, y: usize, colour: &str, value: f64, most: f64) {
     writeln!(drawn, r#"<text x="{end:.1}" y="{text}" font-size="10" fill="{colour}">{value:.0}</text>"#).unwrap();
 }
 
-pub fn drawn(all: &[Measured]) -> String {
-    let rows: Vec<&Measured> = all.iter().filter(|one| one.length > 0).collect();
+pub fn drawn(rows: &[&Measured]) -> String {
     let most = rows.iter().map(|one| speed(one.length, one.library.min(one.fast))).fold(0.0, f64::max);
     let (height, width) = (TOP + ROW * rows.len() + 12, LEFT + WIDTH + 60);
     let mut drawn = String::new();
@@ -33,7 +32,7 @@ pub fn drawn(all: &[Measured]) -> String {
     for (row, one) in rows.iter().enumerate() {
         let y = TOP + ROW * row;
         let text = y + 14;
-        writeln!(drawn, r#"<text x="12" y="{text}" font-size="12">{}, {} bytes</text>"#, one.name, one.length).unwrap();
+        writeln!(drawn, r#"<text x="12" y="{text}" font-size="12">{}, {} bytes</text>"#, one.call.name(), one.length).unwrap();
         bar(&mut drawn, y, "#1f4e79", speed(one.length, one.library), most);
         bar(&mut drawn, y + 11, "#c0792a", speed(one.length, one.fast), most);
     }

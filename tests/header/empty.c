@@ -27,6 +27,8 @@ static void stored(const char *what, size_t figure, size_t expected)
 
 typedef uint16_t read6250(const uint16_t *, size_t, const rindthok_algebraic_map *, size_t, uint8_t *, size_t, size_t *,
                           size_t *, size_t *);
+typedef uint16_t log6250(const uint16_t *, size_t, const rindthok_algebraic_map *, size_t, uint8_t *, size_t, size_t *,
+                         size_t *);
 typedef uint16_t read800(const uint16_t *, size_t, uint8_t *, size_t, size_t *, size_t *, size_t *, size_t *);
 typedef uint16_t move(const uint16_t *, size_t, uint16_t *, size_t, size_t *);
 
@@ -52,6 +54,34 @@ static void reads6250(read6250 *read, const uint16_t *words)
     due("6250, no output", read(words, 9, map, 1, NULL, 0, &size, &changes, &place), 2);
     stored("6250", size, 7);
     stored("6250", changes, 7);
+}
+
+static void logs6250(log6250 *log, const uint16_t *words)
+{
+    const rindthok_algebraic_map map[1] = {{0}};
+    size_t length = 7;
+
+    due("log, nothing", log(NULL, 0, NULL, 0, NULL, 0, &length, &place), 1);
+    due("log, no words", log(NULL, 0, map, 1, NULL, 0, &length, &place), 1);
+    due("log, no map", log(words, 9, NULL, 0, NULL, 0, &length, &place), 1);
+    due("log, no space", log(words, 9, map, 1, NULL, 0, &length, &place), 2);
+    stored("log", length, 7);
+}
+
+static void read_log(void)
+{
+    const uint8_t log[1] = {0};
+    rindthok_algebraic_map maps[1] = {{7}};
+
+    due("no groups, nothing", rindthok_read_log(0, NULL, 0, NULL, 0, &place), 9);
+    due("no groups, no log", rindthok_read_log(0, NULL, 0, maps, 1, &place), 9);
+    due("no log", rindthok_read_log(1, NULL, 0, maps, 1, &place), 9);
+    due("no space", rindthok_read_log(1, log, 1, NULL, 0, &place), 2);
+    due("no log, no space", rindthok_read_log(1, NULL, 0, NULL, 0, &place), 2);
+    due("no log, no space, too many groups", rindthok_read_log((size_t)-1, NULL, 0, NULL, 0, &place), 2);
+    stored("read log, refused", maps[0].algebraic, 7);
+    due("a log without marks", rindthok_read_log(1, log, 1, maps, 1, &place), 0);
+    stored("a log without marks", maps[0].algebraic, 0);
 }
 
 static void write800(void)
@@ -93,6 +123,9 @@ int main(void)
     write6250(words);
     reads6250(rindthok_read6250_forward, words);
     reads6250(rindthok_read6250_backward, words);
+    logs6250(rindthok_log6250_forward, words);
+    logs6250(rindthok_log6250_backward, words);
+    read_log();
     write800();
     reads800(rindthok_read800_forward);
     reads800(rindthok_read800_backward);

@@ -26,6 +26,27 @@ extern "C" {
         changes: *mut usize,
         place: *mut usize,
     ) -> u16;
+    pub fn rindthok_log6250_forward(
+        words: *const u16,
+        word_count: usize,
+        maps: *const u16,
+        map_count: usize,
+        log: *mut u8,
+        log_space: usize,
+        length: *mut usize,
+        place: *mut usize,
+    ) -> u16;
+    pub fn rindthok_log6250_backward(
+        words: *const u16,
+        word_count: usize,
+        maps: *const u16,
+        map_count: usize,
+        log: *mut u8,
+        log_space: usize,
+        length: *mut usize,
+        place: *mut usize,
+    ) -> u16;
+    pub fn rindthok_read_log(groups: usize, log: *const u8, log_length: usize, maps: *mut u16, map_space: usize, place: *mut usize) -> u16;
     pub fn rindthok_write800(bytes: *const u8, byte_count: usize, characters: *mut u16, character_space: usize, count: *mut usize, place: *mut usize) -> u16;
     pub fn rindthok_read800_forward(
         characters: *const u16,

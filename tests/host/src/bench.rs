@@ -11,15 +11,6 @@ use crate::Tried;
 /// The words of data 0x01.
 const ONE: [u16; 9] = [850, 827, 818, 827, 825, 825, 825, 827, 859];
 
-impl Tried {
-    fn expect(&mut self, name: &str, holds: bool) {
-        self.cases += 1;
-        if !holds {
-            self.wrong.push(name.to_string());
-        }
-    }
-}
-
 /// Whether groups without pointers are answered so in both directions, with these data in front of the output.
 fn reads(words: &[u16], want: Answer, data: &[u8]) -> bool {
     let maps = vec![0; words.len() / 9];

@@ -10,9 +10,19 @@ use crate::{Seeded, Tried};
 const CASES: usize = 200_000;
 
 /// A reading in forward order.
-struct Reading {
-    words: Vec<u16>,
-    maps: Vec<u16>,
+pub struct Reading {
+    pub words: Vec<u16>,
+    pub maps: Vec<u16>,
+}
+
+impl Reading {
+    /// The words and maps as they come in a direction.
+    pub fn in_direction(self, direction: Direction) -> (Vec<u16>, Vec<u16>) {
+        match direction {
+            Direction::Forward => (self.words, self.maps),
+            Direction::Backward => turned(&self.words, &self.maps),
+        }
+    }
 }
 
 /// Short data mostly, and the limits: 4,101 bytes are 586 groups.
@@ -52,7 +62,7 @@ fn illegal(seeded: &mut Seeded) -> u16 {
 }
 
 /// The tracks in any order, so that a few in front are a choice of tracks.
-fn shuffled(seeded: &mut Seeded) -> [usize; 9] {
+pub fn shuffled(seeded: &mut Seeded) -> [usize; 9] {
     let mut tracks = [0, 1, 2, 3, 4, 5, 6, 7, 8];
     for k in (1..9).rev() {
         tracks.swap(k, seeded.index(k + 1));
@@ -60,7 +70,7 @@ fn shuffled(seeded: &mut Seeded) -> [usize; 9] {
     tracks
 }
 
-fn map_of(tracks: &[usize]) -> u16 {
+pub fn map_of(tracks: &[usize]) -> u16 {
     tracks.iter().map(|track| 1 << track).sum()
 }
 
@@ -151,9 +161,9 @@ fn wrong_lengths(seeded: &mut Seeded, reading: &mut Reading) {
     }
 }
 
-/// A reading of some record, undamaged or damaged in one way or in several.
-fn random_reading(seeded: &mut Seeded, case: usize) -> Reading {
-    let mut body = body(&random_data(seeded, case));
+/// A reading of the record of these data, undamaged or damaged in one way or in several.
+pub fn random_reading(seeded: &mut Seeded, data: &[u8]) -> Reading {
+    let mut body = body(data);
     if seeded.once_in(10) {
         break_padding(seeded, &mut body);
     }
@@ -179,7 +189,7 @@ fn random_reading(seeded: &mut Seeded, case: usize) -> Reading {
 }
 
 /// How a case is told; a long one by its number and lengths only.
-fn told(case: usize, words: &[u16], maps: &[u16]) -> String {
+pub fn told(case: usize, words: &[u16], maps: &[u16]) -> String {
     match maps.len() {
         0..=5 => format!("case {case}: words {words:?}, maps {maps:?}"),
         groups => format!("case {case}: {} words, {groups} maps", words.len()),
@@ -188,10 +198,7 @@ fn told(case: usize, words: &[u16], maps: &[u16]) -> String {
 
 /// One reading answered by the library and by the reader of these tests; what the latter answered.
 fn compare(tried: &mut Tried, direction: Direction, reading: Reading, space: usize) -> Answer {
-    let (words, maps) = match direction {
-        Direction::Forward => (reading.words, reading.maps),
-        Direction::Backward => turned(&reading.words, &reading.maps),
-    };
+    let (words, maps) = reading.in_direction(direction);
     let mut output = vec![LENT_BYTE; space + BEHIND];
     let mut after = vec![LENT_BYTE; space + BEHIND];
     let got = library::read6250(direction, &words, &maps, &mut output[..space]);
@@ -223,19 +230,14 @@ pub fn random_readings(direction: Direction) -> Tried {
     let mut tried = Tried::default();
     let (mut answers, mut changed) = ([0; 7], 0);
     for case in 0..CASES {
-        let reading = random_reading(&mut seeded, case);
+        let data = random_data(&mut seeded, case);
+        let reading = random_reading(&mut seeded, &data);
         let space = seeded.space((7 * reading.maps.len()).saturating_sub(1));
-        match compare(&mut tried, direction, reading, space) {
-            Answer::Delivered(values) => {
-                answers[0] += 1;
-                changed += usize::from(values[1] > 0);
-            }
-            Answer::Refused(number, _) => answers[usize::from(number)] += 1,
-        }
+        let answer = compare(&mut tried, direction, reading, space);
+        answers[answer.number()] += 1;
+        changed += usize::from(matches!(answer, Answer::Delivered(values) if values[1] > 0));
     }
-    tried.remarks.push(format!("answers 0 (delivered) to 6: {answers:?}; deliveries with changed words: {changed}"));
-    for number in (0..7).filter(|&number| answers[number] == 0) {
-        tried.wrong.push(format!("no case is answered by {number}"));
-    }
+    tried.tell_answers(&answers, &[0, 1, 2, 3, 4, 5, 6]);
+    tried.remarks.push(format!("deliveries with changed words: {changed}"));
     tried
 }

@@ -204,26 +204,11 @@ pub fn every_choice(direction: Direction) -> Tried {
             let places: Vec<usize> = (0..n + 2).filter(|place| choice >> place & 1 == 1).collect();
             let mut characters = record.clone();
             flip(&mut characters, &places, 1 << track);
-            answers[number_of(&compare(&mut tried, direction, characters, n))] += 1;
+            answers[compare(&mut tried, direction, characters, n).number()] += 1;
         }
     }
-    distribution(&mut tried, &answers, &[0, 8]);
+    tried.tell_answers(&answers, &[0, 8]);
     tried
-}
-
-fn number_of(answer: &Answer) -> usize {
-    match answer {
-        Answer::Delivered(_) => 0,
-        Answer::Refused(number, _) => usize::from(*number),
-    }
-}
-
-/// Tells how often each number was the answer, and finds fault if one of those that must occur never did.
-fn distribution(tried: &mut Tried, answers: &[usize; 9], needed: &[usize]) {
-    tried.remarks.push(format!("answers 0 (delivered) to 8: {answers:?}"));
-    for number in needed.iter().filter(|&&number| answers[number] == 0) {
-        tried.wrong.push(format!("no case is answered by {number}"));
-    }
 }
 
 pub fn random_readings(direction: Direction) -> Tried {
@@ -235,13 +220,13 @@ pub fn random_readings(direction: Direction) -> Tried {
         let length = reading.len();
         let space = seeded.space(length.saturating_sub(2));
         let answer = compare(&mut tried, direction, reading, space);
-        answers[number_of(&answer)] += 1;
-        longest[number_of(&answer)] += usize::from(length == 2050);
+        answers[answer.number()] += 1;
+        longest[answer.number()] += usize::from(length == 2050);
         if let Answer::Delivered(values) = answer {
             tracks[values[1] as usize] += 1;
         }
     }
-    distribution(&mut tried, &answers, &READING);
+    tried.tell_answers(&answers, &READING);
     tried.remarks.push(format!("of these with 2,048 data characters: {longest:?}; deliveries by corrected track, 9 for none: {tracks:?}"));
     tried
 }
@@ -264,8 +249,8 @@ pub fn random_writes() -> Tried {
         if got != want || characters != after {
             tried.wrong.push(format!("write {} bytes into {space} characters: {got:?} for {want:?}", bytes.len()));
         }
-        answers[number_of(&want)] += 1;
+        answers[want.number()] += 1;
     }
-    distribution(&mut tried, &answers, &[0, 1, 2]);
+    tried.tell_answers(&answers, &[0, 1, 2]);
     tried
 }

@@ -9,6 +9,16 @@ pub enum Answer {
     Refused(u16, usize),
 }
 
+impl Answer {
+    /// The refusal's number, or 0.
+    pub fn number(&self) -> usize {
+        match self {
+            Answer::Delivered(_) => 0,
+            Answer::Refused(number, _) => usize::from(*number),
+        }
+    }
+}
+
 #[derive(Clone, Copy, Debug)]
 pub enum Toward {
     Physical,
@@ -59,6 +69,31 @@ pub fn read6250(direction: Direction, words: &[u16], maps: &[u16], output: &mut 
     let status = unsafe { call(from, words.len(), pointers, maps.len(), to, output.len(), &mut size, &mut changes, &mut place) };
     assert!(status == 0 || (size, changes) == (KEPT, KEPT), "a refusal stores no value");
     answer(status, place, || vec![size as u64, changes as u64])
+}
+
+/// An input as C hands it over: where it has no elements, NULL.
+fn given<T>(input: &[T]) -> *const T {
+    if input.is_empty() { std::ptr::null() } else { input.as_ptr() }
+}
+
+/// A delivery tells the log's length.
+pub fn log6250(direction: Direction, words: &[u16], maps: &[u16], log: &mut [u8]) -> Answer {
+    let (mut length, mut place) = (KEPT, usize::MAX);
+    let call = match direction {
+        Direction::Forward => rindthok_log6250_forward,
+        Direction::Backward => rindthok_log6250_backward,
+    };
+    let (from, pointers, to) = (given(words), given(maps), log.as_mut_ptr());
+    let status = unsafe { call(from, words.len(), pointers, maps.len(), to, log.len(), &mut length, &mut place) };
+    assert!(status == 0 || length == KEPT, "a refusal stores no value");
+    answer(status, place, || vec![length as u64])
+}
+
+/// A delivery has a map for each group, and tells nothing more.
+pub fn read_log(groups: usize, log: &[u8], maps: &mut [u16]) -> Answer {
+    let mut place = usize::MAX;
+    let status = unsafe { rindthok_read_log(groups, given(log), log.len(), maps.as_mut_ptr(), maps.len(), &mut place) };
+    answer(status, place, || vec![])
 }
 
 /// A delivery tells the number of characters written.

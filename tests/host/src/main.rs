@@ -1,17 +1,22 @@
-//! Tests of the proved archive from outside: the outside cases of tests/vectors, and comparisons
+//! Tests of the proved archive and of the programs from outside: the outside cases of tests/vectors, and comparisons
 //! with implementations that share nothing with the library. The last line is `N passed, M failed`.
 
 mod abi;
 mod bench;
 mod damage6250;
 mod damage800;
+mod damage_log;
 mod head_order;
 mod library;
+mod programs;
 mod reading6250;
 mod reading800;
 mod record6250;
 mod record800;
+mod report;
+mod sense_log;
 mod short_cuts;
+mod spoiled_log;
 mod vectors;
 
 use library::{Direction, Toward};
@@ -60,17 +65,21 @@ struct Tried {
     remarks: Vec<String>,
 }
 
-fn vector_file(name: &str, run: impl Fn(&str) -> Result<(), String>) -> Tried {
-    let path = format!("{}/../vectors/{name}", env!("CARGO_MANIFEST_DIR"));
-    let text = std::fs::read_to_string(&path).expect("the vectors are in the repository");
-    let mut tried = Tried::default();
-    for line in text.lines() {
-        tried.cases += 1;
-        if let Err(what) = run(line) {
-            tried.wrong.push(format!("{line}: {what}"));
+impl Tried {
+    fn expect(&mut self, name: &str, holds: bool) {
+        self.cases += 1;
+        if !holds {
+            self.wrong.push(name.to_string());
         }
     }
-    tried
+
+    /// Tells how often each number was the answer, and finds fault if one of those that must occur never did.
+    fn tell_answers(&mut self, answers: &[usize], needed: &[usize]) {
+        self.remarks.push(format!("answers 0 (delivered) to {}: {answers:?}", answers.len() - 1));
+        for number in needed.iter().filter(|&&number| answers[number] == 0) {
+            self.wrong.push(format!("no case is answered by {number}"));
+        }
+    }
 }
 
 fn every_map(toward: Toward) -> Tried {
@@ -147,40 +156,22 @@ fn random_writes() -> Tried {
     tried
 }
 
-/// The listing program on data of the lengths that matter.
-fn listing() -> Tried {
-    use std::io::Write;
-    use std::process::{Command, Stdio};
-    let program = concat!(env!("CARGO_MANIFEST_DIR"), "/../../target/bin/listing");
-    let mut seeded = Seeded(1);
-    let mut tried = Tried::default();
-    for length in [0, 1, 6, 7, 8, 13, 14, 4101, 4102, 10_000] {
-        tried.cases += 1;
-        let bytes: Vec<u8> = (0..length).map(|_| seeded.next() as u8).collect();
-        let mut child = Command::new(program).stdin(Stdio::piped()).stdout(Stdio::piped()).spawn().expect("the listing program is built");
-        // the program stops reading once it has a byte too many, so a write that fails is no fault
-        let _ = child.stdin.take().unwrap().write_all(&bytes);
-        let printed = String::from_utf8(child.wait_with_output().unwrap().stdout).unwrap();
-        let lines: String = record6250::written(&bytes)
-            .chunks(9)
-            .map(|words| words.iter().map(u16::to_string).collect::<Vec<_>>().join(" ") + "\n")
-            .collect();
-        let want = if length > 4101 { "refused 1 0\n".to_string() } else { lines };
-        if printed != want {
-            tried.wrong.push(format!("listing of {length} bytes"));
-        }
-    }
-    tried
+/// A suite's name and what it tried.
+type Suite = (String, Tried);
+
+fn named<const COUNT: usize>(suites: [(&str, Tried); COUNT]) -> Vec<Suite> {
+    suites.into_iter().map(|(name, tried)| (name.to_string(), tried)).collect()
 }
 
-/// A suite's name and what it tried.
-type Suite = (&'static str, Tried);
+/// Every row of the outside cases, whatever its kind.
+fn outside_cases() -> Vec<Suite> {
+    let suite = |kind: String| (format!("{kind}, outside cases"), vectors::of_kind(&kind, vectors::run));
+    vectors::kinds().into_iter().map(suite).collect()
+}
 
 fn suites_at_6250() -> Vec<Suite> {
-    vec![
-        ("writing at 6250, outside cases", vector_file("write6250.txt", vectors::run)),
-        ("reading at 6250, outside cases", vector_file("read6250.txt", vectors::run)),
-        ("the 6250 reader of these tests, outside cases", vector_file("read6250.txt", |line| vectors::read6250(line, reading6250::read))),
+    named([
+        ("the 6250 reader of these tests, outside cases", vectors::of_kind("read6250", |line| vectors::read6250(line, reading6250::read))),
         ("the 6250 reader of these tests, without its short cuts", short_cuts::groups()),
         ("bench readings at 6250", bench::readings6250()),
         ("seeded writes at 6250", random_writes()),
@@ -188,16 +179,30 @@ fn suites_at_6250() -> Vec<Suite> {
         ("every number in a group at 6250, backward", damage6250::every_number(Direction::Backward)),
         ("seeded readings at 6250, forward", damage6250::random_readings(Direction::Forward)),
         ("seeded readings at 6250, backward", damage6250::random_readings(Direction::Backward)),
-        ("the listing program", listing()),
-    ]
+        ("the listing program", programs::listing()),
+    ])
+}
+
+fn suites_of_the_log() -> Vec<Suite> {
+    named([
+        ("the log of these tests, outside cases", vectors::of_kind("log", |line| vectors::read6250(line, sense_log::write))),
+        ("the log read back by these tests, outside cases", vectors::of_kind("read-log", |line| vectors::read_log(line, sense_log::read_back))),
+        ("the log read back by these tests, small logs", spoiled_log::small_logs(sense_log::read_back, 0..=7)),
+        ("the report of these tests, outside cases", vectors::of_kind("report", |line| vectors::program(line, |input| Ok(report::text_for(input))))),
+        ("logs with every word in a group, forward", damage_log::every_word(Direction::Forward)),
+        ("logs with every word in a group, backward", damage_log::every_word(Direction::Backward)),
+        ("logs of seeded readings, forward", damage_log::random_readings(Direction::Forward)),
+        ("logs of seeded readings, backward", damage_log::random_readings(Direction::Backward)),
+        ("small logs read back", spoiled_log::small_logs(library::read_log, 0..=255)),
+        ("seeded logs read back", spoiled_log::random_logs()),
+        ("the report program", report::streams()),
+    ])
 }
 
 fn suites_at_800() -> Vec<Suite> {
-    vec![
-        ("writing at 800, outside cases", vector_file("write800.txt", vectors::run)),
-        ("reading at 800, outside cases", vector_file("read800.txt", vectors::run)),
-        ("the 800 writer of these tests, outside cases", vector_file("write800.txt", |line| vectors::write800(line, record800::write))),
-        ("the 800 reader of these tests, outside cases", vector_file("read800.txt", |line| vectors::read800(line, reading800::read))),
+    named([
+        ("the 800 writer of these tests, outside cases", vectors::of_kind("write800", |line| vectors::write800(line, record800::write))),
+        ("the 800 reader of these tests, outside cases", vectors::of_kind("read800", |line| vectors::read800(line, reading800::read))),
         ("the 800 reader of these tests, without its short cut", short_cuts::records()),
         ("bench readings at 800", bench::readings800()),
         ("seeded writes at 800", damage800::random_writes()),
@@ -207,21 +212,20 @@ fn suites_at_800() -> Vec<Suite> {
         ("every choice of wrong characters at 800, backward", damage800::every_choice(Direction::Backward)),
         ("seeded readings at 800, forward", damage800::random_readings(Direction::Forward)),
         ("seeded readings at 800, backward", damage800::random_readings(Direction::Backward)),
-    ]
+    ])
 }
 
 fn suites_of_head_order() -> Vec<Suite> {
-    vec![
-        ("head order, outside cases", vector_file("head_order.txt", vectors::run)),
+    named([
         ("every map to physical", every_map(Toward::Physical)),
         ("every map to algebraic", every_map(Toward::Algebraic)),
         ("seeded words to physical", random_words(Toward::Physical)),
         ("seeded words to algebraic", random_words(Toward::Algebraic)),
-    ]
+    ])
 }
 
 fn main() {
-    let suites: Vec<Suite> = [suites_at_6250(), suites_at_800(), suites_of_head_order()].into_iter().flatten().collect();
+    let suites: Vec<Suite> = [outside_cases(), suites_at_6250(), suites_of_the_log(), suites_at_800(), suites_of_head_order()].into_iter().flatten().collect();
     let mut failed = 0;
     for (name, tried) in &suites {
         println!("{name}: {} cases, {} differ", tried.cases, tried.wrong.len());
