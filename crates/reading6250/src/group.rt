@@ -37,7 +37,8 @@ pub(crate) fn judge_group(
     let place = turned_place(backward, maps.len(), g);
     let received = receive(words, place * Code6250::NUMBERS, backward, table);
     let group = received.group;
-    match judge(group, relied(maps[place], received.illegal)) {
+    let pointed = relied(maps[place], received.illegal);
+    match judge(group, pointed) {
         Judged::Corrected(right) => {
             let fitting = right.group;
             Judged::Corrected(Correction {

@@ -5,3 +5,4 @@ pub mod Good
 pub mod Back
 pub mod Again
 pub mod Written
+pub mod Example

@@ -1,16 +1,17 @@
--- The bench readings that document 01 marks with a star, as one table. Each call is lent an output of ten numbers, so that a row also says
+-- The bench readings that document 01 marks with a star, as one table, and logs beside it. Each call is lent an output of ten numbers, so that a row also says
 -- what is kept: behind a result, and after a refusal all of it.
 -- Assumes nothing.
 use Prim.Native.Nat.{ℕ}
-use mathlib.Core.Bool.{false}
+use mathlib.Core.Bool.{true, false}
 use mathlib.Core.List.{List, [], _∷_, _++_, map}
 use lib.ListN.{length, drop}
 use Rattle.answer.specs.Answer.{Answer, delivered, refused, outputAfter}
+use Rattle.record6250.specs.Picture.{turnedNumbers}
 use Rattle.record6250.specs.Record.{body}
 use Rattle.record800.specs.Record.{characterOf, checkCharacter}
 use Rattle.cyclic.specs.Constants.{offset}
 use Rattle.register.specs.Xor.{_⊕_}
-use Rattle.terms.specs.Call.{Call, write, read, answerTo, resultOf}
+use Rattle.terms.specs.Call.{Call, write, read, log, readLog, answerTo, resultOf}
 use Rattle.terms.specs.Reading.{bpi6250, bpi800, Reading, at6250, at800, turned}
 
 -- what is asked of the definitions: the body that is made of data, the check character before G2 is added, or a call
@@ -91,3 +92,31 @@ rowOf turn r = row (read (turn (r .reading))) (r .answer) (r .front)
 
 unfoldable pub starred : List Row
 starred = written ++ map (rowOf (λ r. r)) readings ++ map (rowOf turned) readings
+
+-- The logs of some of these readings, forward and as they pass the head the other way, and logs read back (document 02, request 2.1). The
+-- readings are document 01's, and the answers follow from the request's words; none has a star.
+unfoldable pub logRows : List ℕ → ℕ → Answer → List ℕ → List Row
+logRows words pointers answer front =
+    row (log false words (pointers ∷ [])) answer front ∷ row (log true (turnedNumbers words) (pointers ∷ [])) answer front ∷ []
+
+unfoldable pub logs : List Row
+logs =
+    logRows (825 ∷ 827 ∷ 818 ∷ 827 ∷ 825 ∷ 825 ∷ 825 ∷ 827 ∷ 859 ∷ []) 0 (delivered (3 ∷ [])) (1 ∷ 1 ∷ 0 ∷ [])
+    ++ logRows (825 ∷ 827 ∷ 818 ∷ 827 ∷ 825 ∷ 825 ∷ 825 ∷ 827 ∷ 825 ∷ []) 257 (delivered (3 ∷ [])) (1 ∷ 1 ∷ 1 ∷ [])
+    ++ logRows (850 ∷ 827 ∷ 818 ∷ 827 ∷ 825 ∷ 825 ∷ 825 ∷ 827 ∷ 859 ∷ []) 8 (delivered (1 ∷ [])) (0 ∷ [])
+    ++ logRows (825 ∷ 827 ∷ 818 ∷ 827 ∷ 825 ∷ 825 ∷ 825 ∷ 827 ∷ 825 ∷ []) 0 (refused 5 0) []
+    ++ logRows (818 ∷ 819 ∷ 819 ∷ 827 ∷ 825 ∷ 825 ∷ 825 ∷ 825 ∷ 819 ∷ []) 0 (refused 6 0) []
+    ++ row (readLog 1 (1 ∷ 1 ∷ 1 ∷ [])) (delivered []) (257 ∷ [])
+    ∷ row (readLog 9 (128 ∷ 1 ∷ 1 ∷ 0 ∷ 255 ∷ 1 ∷ [])) (delivered []) (0 ∷ 0 ∷ 0 ∷ 0 ∷ 0 ∷ 0 ∷ 0 ∷ 1 ∷ 511 ∷ [])
+    ∷ row (readLog 8 (0 ∷ [])) (delivered []) (0 ∷ 0 ∷ 0 ∷ 0 ∷ 0 ∷ 0 ∷ 0 ∷ 0 ∷ [])
+    ∷ row (readLog 11 (0 ∷ 0 ∷ [])) (refused 2 0) []
+    ∷ row (readLog 0 []) (refused 9 0) []
+    ∷ row (readLog 9 (0 ∷ 2 ∷ 1 ∷ 0 ∷ [])) (refused 9 0) []
+    ∷ row (readLog 9 (0 ∷ 2 ∷ [])) (refused 10 0) []
+    ∷ row (readLog 1 (1 ∷ 0 ∷ 0 ∷ [])) (refused 10 0) []
+    ∷ row (readLog 1 (1 ∷ 0 ∷ 2 ∷ [])) (refused 10 0) []
+    ∷ []
+
+-- all rows that are computed
+unfoldable pub computed : List Row
+computed = starred ++ logs
