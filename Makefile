@@ -5,19 +5,20 @@
 .PHONY: run test benchmark stack
 
 ARCHIVE := target/staticlib/librindthok.a
-PROGRAMS := target/bin/listing target/bin/bench
+PROGRAMS := target/bin/listing target/bin/bench target/bin/report
 SOURCES := $(shell find crates -name '*.rt' -o -name '*.antt') crates.txt
 
-run: $(PROGRAMS) target/write_and_read
+run: $(PROGRAMS) target/write_and_read target/file_log
 	printf '\001' | ./target/bin/listing
 	./target/bin/bench read 6250 forward <examples/damaged_forward.txt
 	./target/bin/bench read 6250 backward <examples/damaged_backward.txt
+	./target/file_log <examples/damaged_forward.txt | ./target/bin/report
 	./target/write_and_read
 
 test:
 	bash .ci/run
 
-target/write_and_read: examples/write_and_read.c include/rindthok.h $(ARCHIVE)
+target/write_and_read target/file_log: target/%: examples/%.c include/rindthok.h $(ARCHIVE)
 	$(CC) -O2 -Wall -Wextra -Werror -Iinclude -o $@ $< $(ARCHIVE)
 
 # rt proves the crate and what it stands on, and builds only if every function is proved.
@@ -25,7 +26,7 @@ $(ARCHIVE): $(SOURCES)
 	rt staticlib rindthok
 
 $(PROGRAMS) &: $(SOURCES)
-	rt check listing bench
+	rt check listing bench report
 
 # How fast the calls are, beside an implementation in Rust and beside memcpy; draws docs/benchmark.svg.
 benchmark: $(ARCHIVE)
