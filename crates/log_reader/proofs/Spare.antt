@@ -19,7 +19,7 @@ use Rattle.sense_log.specs.Log.{bitMapLength}
 use Rattle.log_reader.proofs.Standing.{group-bit-in}
 
 -- a test that was computed to hold
-held : (b : Bool) → b ≡ true → T b
+pub held : (b : Bool) → b ≡ true → T b
 held true e = tt
 held false e = absurd (true≢false (sym e))
 

@@ -14,7 +14,7 @@ use Rattle.sense_log.specs.Back.{standingBits, suitingLength, lengthSuits, stor
 use Rattle.sense_log.specs.Log.{bitMapLength}
 
 -- both of two tests
-both : (a b : Bool) → a && b ≡ true → (a ≡ true) × (b ≡ true)
+pub both : (a b : Bool) → a && b ≡ true → (a ≡ true) × (b ≡ true)
 both true b e = (refl, e)
 both false b e = absurd (true≢false (sym e))
 
