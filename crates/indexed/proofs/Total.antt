@@ -89,11 +89,14 @@ total-split m (suc n) f =
     ∙ ap (λ (x : ℕ). x + f (m + n)) (total-split m n f)
     ∙ add-assoc (total m f) _ _
 
--- of zeros and ones
-pub total-digits : (n : ℕ) (f : ℕ → ℕ) → ((k : ℕ) → f k < 2) → total n f ≤ n
+-- of terms that are bounded, and of zeros and ones
+pub total-most : (most n : ℕ) (f : ℕ → ℕ) → ((k : ℕ) → k < n → f k ≤ most) → total n f ≤ most * n
 unfolding total
-total-digits zero f h = omega arith
-total-digits (suc n) f h = omega (arith, total-digits n f h, h n)
+total-most most zero f h = omega arith
+total-most most (suc n) f h = omega (arith, mul-suc most n, total-most most n f (λ k b. h k (omega arith)), h n (omega arith))
+
+pub total-digits : (n : ℕ) (f : ℕ → ℕ) → ((k : ℕ) → f k < 2) → total n f ≤ n
+total-digits n f h = omega (arith, total-most 1 n f (λ k b. omega (arith, h k)))
 
 pub total-twice : (n : ℕ) (f g : ℕ → ℕ) → ((k : ℕ) → f k ≡ 2 * g k) → total n f ≡ 2 * total n g
 unfolding total

@@ -1,18 +1,19 @@
 -- A text that fits on a page, one that does not, and one text behind another; and the digits of a number.
 -- Assumes nothing.
-use Prim.Native.Nat.{ℕ, suc, _+_, _-_, _^_, _≤_, _<_, max}
+use Prim.Native.Nat.{ℕ, zero, suc, _+_, _-_, _/_, _%_, _^_, _≤_, _<_, max}
 use mathlib.Core.Path.{_≡_, refl, sym, ap, ap₂, _∙_}
 use mathlib.Core.Bool.{Bool, true, false, true≢false}
-use mathlib.Core.List.{List, [], _++_}
+use mathlib.Core.List.{List, [], _∷_, _++_}
 use native.Mathlib.Nat.{add-zero, add-assoc, le-trans, lt-irrefl, lt-of-lt-of-le, pow-le-pow-right}
+use native.Mathlib.Numerals.{add-one}
 use native.Mathlib.Omega.{arith}
 use borrow.Author.Tests.{le-leb, lt-leb, lt-ltb, le-ltb, leb-true, leb-false, ltb-true, ltb-false}
 use lib.Dec.{leb, ltb}
 use lib.ListN.{length, length-append}
 use lib.Seq.{sets}
-use Rattle.io.specs.Digits.{digits, Fewest}
+use Rattle.io.specs.Digits.{digits, glyph, Fewest}
 use Rattle.indexed.specs.List.{firstBelow}
-use Rattle.indexed.proofs.Below.{first-below-at, first-below-before}
+use Rattle.indexed.proofs.Below.{first-below-at, first-below-before, first-below-le}
 use Rattle.indexed.proofs.Stores.{sets-append}
 use Rattle.page.specs.Page.{pageSize, heldAfter, Printed, places, numeral}
 
@@ -125,3 +126,13 @@ module _ (base least n k : ℕ) (b : 1 ≤ base) (l : 1 ≤ least) (short : leas
   pub digits-numeral : digits base k n ≡ numeral base least n
   unfolding numeral
   digits-numeral = ap (λ (j : ℕ). digits base j n) fewest-places
+
+-- and are no more than the definition looks for
+length-digits : (base k n : ℕ) → length (digits base k n) ≡ k
+length-digits base zero n = refl
+length-digits base (suc k) n =
+    length-append (digits base k (n / base)) (glyph (n % base) ∷ []) ∙ ap (λ (m : ℕ). m + 1) (length-digits base k (n / base)) ∙ add-one k
+
+pub numeral-short : (base least n : ℕ) → least ≤ 21 → length (numeral base least n) ≤ 21
+unfolding numeral places
+numeral-short base least n h = omega (arith, length-digits base (places base least n) n, first-below-le 20 (λ k. ltb n (base ^ suc k)))

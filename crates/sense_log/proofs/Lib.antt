@@ -5,4 +5,5 @@ pub mod Good
 pub mod Back
 pub mod Again
 pub mod Written
+pub mod Marks
 pub mod Example

@@ -1,0 +1,43 @@
+-- What reading a log back answered and stored, as the report has it.
+-- Assumes nothing.
+use Prim.Native.Nat.{ℕ, _≤_}
+use mathlib.Core.Path.{_≡_, sym, ap, _∙_}
+use mathlib.Core.List.{List, []}
+use lib.ListN.{length, take, drop}
+use lib.Seq.{take-at}
+use Rattle.answer.specs.Answer.{Answer, delivered, refused, numberOf, outputAfter}
+use Rattle.answer.specs.declared.Refusal.{Refusal}
+use Rattle.sense_log.proofs.Answer.{back-delivered}
+use Rattle.sense_log.proofs.Back.{length-mapsOf}
+use Rattle.sense_log.proofs.Marks.{most-marks}
+use Rattle.log_reader.specs.Told.{toldBack}
+use Rattle.log_reader.specs.declared.ReadBack.{ReadBack}
+use Rattle.log_reader.specs.declared.ReadBack.the-variants.{Delivered, Refused}
+use Rattle.sense_log.specs.Back.{mapsOf, readLogAnswer}
+use Rattle.report.specs.Report.{mapsLent, mostMarks, answerOf, marksOf}
+
+module _ (groups : ℕ) (log : List ℕ) where
+  -- a delivery has space for its maps, and its marks are few
+  module _ (is : answerOf groups log ≡ delivered []) where
+    pub maps-fit : groups ≤ mapsLent
+    maps-fit = back-delivered groups log mapsLent [] is .0
+
+    pub marks-few : marksOf groups log ≤ mostMarks
+    marks-few = most-marks groups log mapsLent [] is
+
+  module _ (space : ℕ) (r : ReadBack) (told : toldBack r ≡ readLogAnswer groups log space) (lent : space ≡ mapsLent) where
+    answered : toldBack r ≡ answerOf groups log
+    answered = told ∙ ap (readLogAnswer groups log) lent
+
+    pub is-delivered : r ≡ Delivered → answerOf groups log ≡ delivered []
+    is-delivered e = sym answered ∙ ap toldBack e
+
+    pub is-refused : (refusal : Refusal) → r ≡ Refused refusal → answerOf groups log ≡ refused (numberOf (refusal .reason)) (refusal .place)
+    is-refused refusal e = sym answered ∙ ap toldBack e
+
+    -- the maps of the groups stand at the front
+    pub maps-in-front : r ≡ Delivered → (before after : List ℕ) → after ≡ outputAfter (toldBack r) (mapsOf groups log) before → take groups after ≡ mapsOf groups log
+    unfolding outputAfter
+    maps-in-front e before after stored =
+        ap (take groups) (stored ∙ ap (λ (a : Answer). outputAfter a (mapsOf groups log) before) (ap toldBack e))
+        ∙ take-at (mapsOf groups log) (drop (length (mapsOf groups log)) before) groups (length-mapsOf groups log)

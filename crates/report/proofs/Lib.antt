@@ -1,0 +1,5 @@
+pub mod Cut
+pub mod Answered
+pub mod Short
+pub mod Steps
+pub mod State

@@ -1,0 +1,200 @@
+-- `report::whole::make_report` meets its contract. The loop's invariant: the lines of the first k logs were handed over or are on the page.
+-- Assumes nothing.
+use Prim.Native.Nat.{_-_, _^_, _≤_}
+use mathlib.Core.Path.{_≡_, refl, sym, subst, _∙_}
+use mathlib.Core.Logic.{⊎-elim}
+use native.Mathlib.Omega.{arith}
+use denote.Ref.{now}
+use lib.ListN.{length}
+use borrow.Author.Needs.{needs}
+use borrow.Author.Tests.{not-false}
+use Rattle.report.specs.Made.{NextPut}
+use Rattle.report.specs.Report.{mapsLent, mostBytes}
+use Rattle.report.specs.declared.line.Line.{Line}
+use Rattle.report.specs.declared.line.Line.the-variants.{Marks, Last, Unread}
+use Rattle.report.specs.declared.whole.End.the-variants.{Made, Unread as Broken, TooMany, Told}
+use Rattle.report.proofs.State.{State, state-as, state-bound, state-none, whole-kept, state-passed, state-more, state-last, last-bound, reported}
+use Rattle.report.proofs.whole.make_report.Statement.{statement}
+use Rattle.report.proofs.whole.make_report.Tie as tie
+
+abbrev Inv-loop : tie.InvT-loop
+Inv-loop page₀ log₀ maps₀ held₀ handed₀ total₀ k₀ page log maps held handed total k = (k ≤ 2 ^ 51) × (length log ≡ mostBytes) × (length maps ≡ mapsLent) × State k total handed page held
+
+abbrev μ-loop : tie.MeasureT-loop
+μ-loop page₀ log₀ maps₀ held₀ handed₀ total₀ k₀ page log maps held handed total k = 2 ^ 51 - k
+
+loop-holds : tie.Need-loop-holds Inv-loop μ-loop
+loop-holds c = let start = c .before .before in (omega arith, start .pre .0, start .pre .1, state-none (now (start .args .page)))
+
+pass-on-requires : tie.Need-pass-on-requires Inv-loop μ-loop
+pass-on-requires c κs = let at = c .before .before .before in omega (arith, state-bound (at .loop .inv .3))
+
+is-whole-requires : tie.Need-is-whole-requires Inv-loop μ-loop
+is-whole-requires c κs = search needs
+
+ended-requires : tie.Need-ended-requires Inv-loop μ-loop
+ended-requires c κs = search needs
+
+same-length : tie.Need-same-length Inv-loop μ-loop
+same-length c = let at = c .before .before .before .before .before .before .before in at .loop .inv .1 ∙ sym (at .before .before .before .pre .0)
+
+same-length-2 : tie.Need-same-length-2 Inv-loop μ-loop
+same-length-2 c = let at = c .before .before .before .before .before .before .before in at .loop .inv .2 ∙ sym (at .before .before .before .pre .1)
+
+returns : tie.Need-returns Inv-loop μ-loop
+returns c =
+    let at = c .before .before .before .before .before .before .before in
+    reported _ (c .ended .result) Told (at .loop .held) (at .loop .handed) (c .ended .ensures) tt (omega (arith, state-bound (at .loop .inv .3)))
+
+add-handed : tie.Need-add-handed Inv-loop μ-loop
+add-handed c = let at = c .before .before .before .before .before .before in omega (arith, state-bound (at .loop .inv .3))
+
+-- there is room for a line
+room : (c : tie.Joined1 Inv-loop μ-loop)
+    → State (c .before .before .loop .k) (c .before .before .loop .total) (c .if1 .handed) (c .if1 .page) (c .if1 .held) × (c .if1 .held ≤ 65472)
+room c =
+    let l = c .before .before .loop in
+    ⊎-elim
+    (λ w.
+    let kept = whole-kept (l .held) (l .handed) (l .page) (w .2 .last .0) (w .2 .result) (w .2 .ensures) (sym (w .3 .ensures) ∙ not-false _ (w .4 .left)) in
+    (state-as (state-passed (l .k) (l .total) (l .handed) (l .held) (l .page) (w .2 .last .0) kept (l .inv .3)) (w .7) (w .5) (w .6), omega (arith, w .6)))
+    (λ w. (state-as (l .inv .3) (w .3) (w .1) (w .2), omega (arith, w .2, w .0 .left)))
+    (c .if1 .came)
+
+put-next-requires : tie.Need-put-next-requires Inv-loop μ-loop
+put-next-requires c κs =
+    let l = c .before .before .before .before .before .loop in (l .inv .1, l .inv .2, omega (arith, l .inv .3 .marks, c .before .before .before .before .loop-test .taken))
+
+-- the spaces are as long as they were
+log-long : (c : tie.After-put-next Inv-loop μ-loop) → length (c .put-next .last .1 .1 .1 .0) ≡ mostBytes
+log-long c = c .put-next .kept .1 .1 .1 .0 ∙ c .before .before .before .before .before .before .loop .inv .1
+
+maps-long : (c : tie.After-put-next Inv-loop μ-loop) → length (c .put-next .last .1 .1 .1 .1 .0) ≡ mapsLent
+maps-long c = c .put-next .kept .1 .1 .1 .1 .0 ∙ c .before .before .before .before .before .before .loop .inv .2
+
+-- what was put
+put : (c : tie.After-put-next Inv-loop μ-loop) (line : Line) → c .put-next .result ≡ line
+    → NextPut (c .before .before .before .before .before .before .loop .total) (c .before .before .before .before .if1 .page) (c .before .before .before .before .if1 .held) (c .put-next .last .0) line
+put c line is =
+    let at = c .before .before .before .before in
+    subst (λ (n : Line). NextPut (at .before .before .loop .total) (at .if1 .page) (at .if1 .held) (c .put-next .last .0) n) is (c .put-next .ensures)
+
+enum-known-standing : tie.Need-enum-known-standing Inv-loop μ-loop
+enum-known-standing c = search needs
+
+enum-known-last : tie.Need-enum-known-last Inv-loop μ-loop
+enum-known-last c = search needs
+
+ended-requires-2 : tie.Need-ended-requires-2 Inv-loop μ-loop
+ended-requires-2 c κs = search needs
+
+same-length-3 : tie.Need-same-length-3 Inv-loop μ-loop
+same-length-3 c =
+    let done = c .before .before .before .before .before .before .before .before in log-long done ∙ sym (done .before .before .before .before .before .before .before .before .before .pre .0)
+
+same-length-4 : tie.Need-same-length-4 Inv-loop μ-loop
+same-length-4 c =
+    let done = c .before .before .before .before .before .before .before .before in maps-long done ∙ sym (done .before .before .before .before .before .before .before .before .before .pre .1)
+
+returns-2 : tie.Need-returns-2 Inv-loop μ-loop
+returns-2 c =
+    let done = c .before .before .before .before .before .before .before .before in
+    let last = c .before .before .last .given in
+    let at = done .before .before .before .before in
+    let l = at .before .before .loop in
+    let roomy = room at in
+    let made = put done (Last (last .0 .0)) (last .1) in
+    reported _ (c .ended2 .result) Made (last .0 .0) (at .if1 .handed) (c .ended2 .ensures)
+    (state-last (l .k) (l .total) (at .if1 .handed) (at .if1 .held) (last .0 .0) (at .if1 .page) (done .put-next .last .0) (roomy .0) (omega (arith, roomy .1)) made)
+    (omega (arith, l .inv .0, last-bound (l .k) (l .total) (at .if1 .handed) (at .if1 .held) (last .0 .0) (at .if1 .page) (done .put-next .last .0) (roomy .0) (omega (arith, roomy .1)) made))
+
+enum-known-number : tie.Need-enum-known-number Inv-loop μ-loop
+enum-known-number c = search needs
+
+ended-requires-3 : tie.Need-ended-requires-3 Inv-loop μ-loop
+ended-requires-3 c κs = search needs
+
+same-length-5 : tie.Need-same-length-5 Inv-loop μ-loop
+same-length-5 c =
+    let done = c .before .before .before .before .before .before .before .before in log-long done ∙ sym (done .before .before .before .before .before .before .before .before .before .pre .0)
+
+same-length-6 : tie.Need-same-length-6 Inv-loop μ-loop
+same-length-6 c =
+    let done = c .before .before .before .before .before .before .before .before in maps-long done ∙ sym (done .before .before .before .before .before .before .before .before .before .pre .1)
+
+returns-3 : tie.Need-returns-3 Inv-loop μ-loop
+returns-3 c =
+    let done = c .before .before .before .before .before .before .before .before in
+    let number = c .before .before .number .given in
+    let at = done .before .before .before .before in
+    let l = at .before .before .loop in
+    let state = state-as (room at .0) refl (put done (Unread (number .0 .0)) (number .1)) refl in
+    reported _ (c .ended3 .result) (Broken (number .0 .0)) (at .if1 .held) (at .if1 .handed) (c .ended3 .ensures) (l .k, l .total, state .begun) (omega (arith, l .inv .0, state-bound state))
+
+add-k : tie.Need-add-k Inv-loop μ-loop
+add-k c = search needs
+
+loop-less : tie.Need-loop-less Inv-loop μ-loop
+loop-less c = let at = c .before .before .before .before .before .before .before .before .before .before .before .before .before in omega (arith, at .loop .inv .0, c .before .before .before .before .before .before .before .before .before .before .before .before .loop-test .taken)
+
+loop-again : tie.Need-loop-again Inv-loop μ-loop
+loop-again c =
+    let done = c .before .before .before .before .before .before .before in
+    let standing = c .before .standing .given in
+    let at = done .before .before .before .before in
+    let l = at .before .before .loop in
+    let roomy = room at in (
+      omega (arith, at .before .loop-test .taken),
+      log-long done,
+      maps-long done,
+      state-more (l .k) (l .total) (at .if1 .handed) (at .if1 .held) (standing .0 .0 .held) (at .if1 .page) (done .put-next .last .0) (roomy .0) (omega (arith, roomy .1)) (standing .0 .0 .total)
+          (put done (Marks (standing .0 .0)) (standing .1)),
+    )
+
+ended-requires-4 : tie.Need-ended-requires-4 Inv-loop μ-loop
+ended-requires-4 c κs = search needs
+
+same-length-7 : tie.Need-same-length-7 Inv-loop μ-loop
+same-length-7 c = let at = c .before .before in at .loop .inv .1 ∙ sym (at .before .before .before .pre .0)
+
+same-length-8 : tie.Need-same-length-8 Inv-loop μ-loop
+same-length-8 c = let at = c .before .before in at .loop .inv .2 ∙ sym (at .before .before .before .pre .1)
+
+returns-4 : tie.Need-returns-4 Inv-loop μ-loop
+returns-4 c =
+    let l = c .before .before .loop in
+    reported _ (c .ended4 .result) TooMany (l .held) (l .handed) (c .ended4 .ensures) (l .k, l .total, l .inv .3 .begun) (omega (arith, l .inv .0, state-bound (l .inv .3)))
+
+pub make-report-spec : {M : Type 1} → statement M
+make-report-spec =
+    tie.close
+    (tie.spec
+    Inv-loop
+    μ-loop
+    loop-holds
+    pass-on-requires
+    is-whole-requires
+    ended-requires
+    same-length
+    same-length-2
+    returns
+    add-handed
+    put-next-requires
+    enum-known-standing
+    enum-known-last
+    ended-requires-2
+    same-length-3
+    same-length-4
+    returns-2
+    enum-known-number
+    ended-requires-3
+    same-length-5
+    same-length-6
+    returns-3
+    add-k
+    loop-less
+    loop-again
+    ended-requires-4
+    same-length-7
+    same-length-8
+    returns-4)
