@@ -82,9 +82,10 @@ fn put_log(
     match read_log(groups, log, maps) {
         ReadBack::Delivered => {
             let count = count_marks(&maps[..groups]);
+            let sum = total + count;
             Line::Marks(Standing {
                 held: put_count(page, held, count),
-                total: total + count,
+                total: sum,
             })
         }
         ReadBack::Refused(refusal) => Line::Last(put_refusal(page, held, refusal)),

@@ -42,8 +42,8 @@ pub(crate) fn make_report(page: &mut [u8; PAGE], log: &mut [u8], maps: &mut [u16
     ensures text { λ r. ⌜ Reported (now (page .exit)) r ⌝ }
     ensures bound { λ r. ⌜ r .handed + r .held < 2 ^ 64 ⌝ }
 {
-    let mut held = 0;
-    let mut handed = 0;
+    let mut held: usize = 0;
+    let mut handed: usize = 0;
     let mut total: u64 = 0;
     let mut k: u64 = 0;
     while k < MOST_LOGS {

@@ -47,9 +47,6 @@ count-marks-requires c κs =
     let start = at .before .before .before .before in
     omega (arith, maps-fit (start .args .groups) (now (start .args .log)) (read-back (c .before)), slice-aggregate-count-marks c)
 
-put-count-requires : tie.Need-put-count-requires
-put-count-requires c κs = search needs
-
 -- its marks are counted
 counted : (c : tie.After-count-marks)
     → c .count-marks .result ≡ marksOf (c .before .before .before .before .before .before .before .before .before .before .args .groups) (now (c .before .before .before .before .before .before .before .before .before .before .args .log))
@@ -59,11 +56,13 @@ counted c =
     c .count-marks .ensures
     ∙ ap marks (maps-in-front (start .args .groups) (now (start .args .log)) _ (at .read-log .result) (at .read-log .ensures .0) (start .pre .0) (c .before .before .enum-told .given .1) (now (start .args .maps)) (at .read-log .last .1 .1 .0) (at .read-log .ensures .1 .0))
 
-add-t17 : tie.Need-add-t17
-add-t17 c =
-    let at = c .before .before in
-    let start = at .before .before .before .before .before .before .before .before .before .before in
-    omega (arith, counted at, marks-few (start .args .groups) (now (start .args .log)) (read-back (at .before .before)), start .pre .1)
+add-sum : tie.Need-add-sum
+add-sum c =
+    let start = c .before .before .before .before .before .before .before .before .before .before in
+    omega (arith, counted c, marks-few (start .args .groups) (now (start .args .log)) (read-back (c .before .before)), start .pre .1)
+
+put-count-requires : tie.Need-put-count-requires
+put-count-requires c κs = search needs
 
 enum-known-refusal : tie.Need-enum-known-refusal
 enum-known-refusal c = search needs
@@ -107,8 +106,8 @@ put-log-spec =
     slice-reshare-prefix-count-marks
     slice-aggregate-count-marks
     count-marks-requires
+    add-sum
     put-count-requires
-    add-t17
     enum-known-refusal
     put-refusal-requires
     same-length
