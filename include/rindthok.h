@@ -23,8 +23,9 @@
  * from 0; for a map by itself 0. 4 and 5: the lowest group, from 0, that has one of the two. 1, 2 and 6 to 10: 0. A
  * backward reading is turned forward first, so its places count from the record's beginning.
  *
- * Stack, as measured on x86-64 from the call to the lowest byte touched: a read at 6250 takes 7,712 bytes forward and
- * 7,744 backward, a read at 800 at most 1,192, a write 136 at 6250 and 560 at 800, a call between the orders 8. Where
+ * Stack, as measured on x86-64 from the call to the lowest byte touched: a read at 6250 takes 7,728 bytes forward and
+ * 7,760 backward, its log 7,824 and 7,856, a log read back 48, a read at 800 at most 1,192, a write 136 at 6250 and 560 at 800, a call
+ * between the orders 8. Where
  * the C library is bound lazily, the first call of its memcpy or memset runs the linker on the same stack, which takes some
  * thousands of bytes more; link with -z now, or statically. The calls allocate nothing and keep no state, so any
  * number of threads may make them.
