@@ -5,11 +5,12 @@
 .PHONY: run test benchmark stack
 
 ARCHIVE := target/staticlib/librindthok.a
-PROGRAMS := target/bin/listing target/bin/bench
+PROGRAMS := target/bin/listing target/bin/report target/bin/bench
 SOURCES := $(shell find crates -name '*.rt' -o -name '*.antt') crates.txt
 
 run: $(PROGRAMS) target/write_and_read
 	printf '\001' | ./target/bin/listing
+	printf '\001\000\003\000\001\001\001' | ./target/bin/report
 	./target/bin/bench read 6250 forward <examples/damaged_forward.txt
 	./target/bin/bench read 6250 backward <examples/damaged_backward.txt
 	./target/write_and_read
@@ -25,7 +26,7 @@ $(ARCHIVE): $(SOURCES)
 	rt staticlib rindthok
 
 $(PROGRAMS) &: $(SOURCES)
-	rt check listing bench
+	rt check listing report bench
 
 # How fast the calls are, beside an implementation in Rust and beside memcpy; draws docs/benchmark.svg.
 benchmark: $(ARCHIVE)
