@@ -5,7 +5,7 @@
 .PHONY: run test benchmark stack
 
 ARCHIVE := target/staticlib/librindthok.a
-PROGRAMS := target/bin/listing target/bin/bench target/bin/report
+PROGRAMS := target/bin/listing target/bin/report target/bin/bench
 SOURCES := $(shell find crates -name '*.rt' -o -name '*.antt') crates.txt
 
 run: $(PROGRAMS) target/write_and_read target/file_log
@@ -26,7 +26,7 @@ $(ARCHIVE): $(SOURCES)
 	rt staticlib rindthok
 
 $(PROGRAMS) &: $(SOURCES)
-	rt check listing bench report
+	rt check listing report bench
 
 # How fast the calls are, beside an implementation in Rust and beside memcpy; draws docs/benchmark.svg.
 benchmark: $(ARCHIVE)

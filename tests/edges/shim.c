@@ -1,27 +1,34 @@
 /* Stands in front of the C library's read, write and close, and fails as EDGES_SHIM says. Only the standard streams are
  * touched. */
 #include <errno.h>
+#include <stdio.h>
 #include <stdlib.h>
 #include <string.h>
 #include <sys/syscall.h>
 #include <unistd.h>
 
-/* What went through one of the three, how many bytes it takes before it breaks, and what asks for that. */
+/* What went through one of the three, and how it is asked that it breaks behind so many bytes, or NULL. */
 struct stream {
     size_t calls;
     size_t moved;
-    size_t whole;
     const char *broken;
 };
 
-static struct stream input = {.whole = 10, .broken = "read"};
-static struct stream output = {.whole = 100, .broken = "write"};
-static struct stream messages = {.broken = "nothing"};
+static struct stream input = {.broken = "read %zu"};
+static struct stream output = {.broken = "write %zu"};
+static struct stream messages = {.broken = NULL};
 
 static int asked(const char *failure)
 {
     const char *words = getenv("EDGES_SHIM");
     return words != NULL && strcmp(words, failure) == 0;
+}
+
+/* Whether a stream is to break, and behind how many bytes. */
+static int breaks(const struct stream *stream, size_t *whole)
+{
+    const char *words = getenv("EDGES_SHIM");
+    return words != NULL && stream->broken != NULL && sscanf(words, stream->broken, whole) == 1;
 }
 
 static size_t least(size_t a, size_t b)
@@ -32,13 +39,16 @@ static size_t least(size_t a, size_t b)
 /* The error that a call fails with; or 0, and then the count is what the call may move. */
 static int hindered(struct stream *stream, size_t *count)
 {
+    size_t whole;
     if (asked("hostile")) {
         *count = least(*count, 7);
         return stream->calls++ % 2 == 0 ? EINTR : 0;
     }
-    if (asked(stream->broken)) {
-        *count = least(*count, stream->whole - stream->moved);
-        return stream->moved == stream->whole ? EIO : 0;
+    if (asked("single"))
+        *count = least(*count, 1);
+    if (breaks(stream, &whole)) {
+        *count = least(*count, whole - stream->moved);
+        return stream->moved == whole ? EIO : 0;
     }
     return 0;
 }

@@ -5,16 +5,20 @@ use mathlib.Core.Path.{_≡_, sym, ap, _∙_}
 use mathlib.Core.List.{List, []}
 use lib.ListN.{length, take, drop}
 use lib.Seq.{take-at}
-use Rattle.answer.specs.Answer.{Answer, delivered, refused, numberOf, outputAfter}
+use Rattle.answer.specs.Answer.{Answer, delivered, numberOf, outputAfter}
 use Rattle.answer.specs.declared.Refusal.{Refusal}
+use Rattle.answer_text.specs.Refusal.{refusalText}
 use Rattle.sense_log.proofs.Answer.{back-delivered}
 use Rattle.sense_log.proofs.Back.{length-mapsOf}
 use Rattle.sense_log.proofs.Marks.{most-marks}
 use Rattle.log_reader.specs.Told.{toldBack}
 use Rattle.log_reader.specs.declared.ReadBack.{ReadBack}
 use Rattle.log_reader.specs.declared.ReadBack.the-variants.{Delivered, Refused}
+use Rattle.page.specs.Page.{Printed}
 use Rattle.sense_log.specs.Back.{mapsOf, readLogAnswer}
+use Rattle.report.specs.Made.{LogPut}
 use Rattle.report.specs.Report.{mapsLent, mostMarks, answerOf, marksOf}
+use Rattle.report.specs.declared.line.Line.the-variants.{Last}
 
 module _ (groups : ℕ) (log : List ℕ) where
   -- a delivery has space for its maps, and its marks are few
@@ -32,8 +36,10 @@ module _ (groups : ℕ) (log : List ℕ) where
     pub is-delivered : r ≡ Delivered → answerOf groups log ≡ delivered []
     is-delivered e = sym answered ∙ ap toldBack e
 
-    pub is-refused : (refusal : Refusal) → r ≡ Refused refusal → answerOf groups log ≡ refused (numberOf (refusal .reason)) (refusal .place)
-    is-refused refusal e = sym answered ∙ ap toldBack e
+    -- the line of a refusal is the last
+    pub refusal-put : (refusal : Refusal) → r ≡ Refused refusal → (total held held' : ℕ) (page page' : List ℕ)
+        → Printed (refusalText (numberOf (refusal .reason)) (refusal .place)) page held page' held' → LogPut groups log total page held page' (Last held')
+    refusal-put refusal e total held held' page page' put = (numberOf (refusal .reason), refusal .place, sym answered ∙ ap toldBack e, put)
 
     -- the maps of the groups stand at the front
     pub maps-in-front : r ≡ Delivered → (before after : List ℕ) → after ≡ outputAfter (toldBack r) (mapsOf groups log) before → take groups after ≡ mapsOf groups log

@@ -1,4 +1,4 @@
-pub mod Cut
+pub mod Came
 pub mod Answered
 pub mod Short
 pub mod Steps

@@ -17,7 +17,7 @@ use Rattle.report.specs.Report.{headingLength, answerOf, marksOf, countT
 use Rattle.report.specs.declared.line.Line.{Line}
 use Rattle.report.specs.declared.line.Line.the-variants.{Marks, Last, Unread}
 use Rattle.report.proofs.Answered.{marks-few}
-use Rattle.report.proofs.Cut.{pair-in-front}
+use Rattle.report.proofs.Came.{pair-in-front}
 use Rattle.report.proofs.Short.{count-short, refusal-short}
 
 module _ (heading log : List ℕ) (whole : length heading ≡ headingLength) (all : length log ≡ lengthAt heading) where

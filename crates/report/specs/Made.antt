@@ -3,18 +3,22 @@
 -- Assumes nothing.
 use Prim.Native.Nat.{ℕ, suc, _+_, _≤_, _<_}
 use mathlib.Core.Path.{_≡_}
+use mathlib.Core.Bool.{cond}
 use mathlib.Core.List.{List, [], _++_}
+use lib.Dec.{eqb, ltb}
 use lib.ListN.{length, drop}
 use Rattle.answer.specs.Answer.{delivered, refused}
 use Rattle.answer_text.specs.Refusal.{refusalText}
 use Rattle.page.specs.Page.{Printed}
+use Rattle.transfer.specs.declared.Ended.{Ended}
+use Rattle.transfer.specs.declared.Ended.the-variants.{After, Failed as Broken}
 use Rattle.report.specs.Report.{headingLength, mostMarks, mostLine, answerOf, marksOf, countText, groupsAt, lengthAt, reportFrom, reportText}
 use Rattle.report.specs.declared.input.Next.{Next}
 use Rattle.report.specs.declared.input.Next.the-variants.{Log, Nothing, Cut, Failed}
 use Rattle.report.specs.declared.line.Line.{Line}
 use Rattle.report.specs.declared.line.Line.the-variants.{Marks, Last, Unread}
 use Rattle.report.specs.declared.whole.End.{End}
-use Rattle.report.specs.declared.whole.End.the-variants.{Made, Unread as Broken, TooMany, Told}
+use Rattle.report.specs.declared.whole.End.the-variants.{Made, Unread as Stopped, TooMany, Told}
 use Rattle.report.specs.declared.whole.Report.{Report}
 
 -- The line of a log that is put behind logs with so many marks: its own marks, which join the total; or its refusal, and that is the last
@@ -25,6 +29,16 @@ LogPut groups log total page held page' (Marks s) =
 LogPut groups log total page held page' (Last end) =
     (number : ℕ) × (place : ℕ) × (answerOf groups log ≡ refused number place) × Printed (refusalText number place) page held page' end
 LogPut groups log total page held page' (Unread number) = ⊥
+
+-- What comes next, by how reading ended: of a heading that is not whole, and of the log behind a heading. Only a read that ended well tells that
+-- nothing is left, or that the input is cut.
+abbrev pub noHeading : Ended → Next
+noHeading (After count) = cond (eqb count 0) Nothing Cut
+noHeading (Broken number) = Failed number
+
+abbrev pub behindHeading : ℕ → ℕ → Ended → Next
+behindHeading groups length (After count) = cond (ltb count length) Cut (Log (record { groups = groups; length = length }))
+behindHeading groups length (Broken number) = Failed number
 
 -- What came next: a heading, with the log at the front of the space; nothing; bytes that are cut; or a read failed.
 abbrev pub Came : List ℕ → Next → Type 0
@@ -77,7 +91,7 @@ pub record Begun (logs total handed : ℕ) (page : List ℕ) (held : ℕ) : Type
 
 abbrev pub ReportedAs : End → ℕ → ℕ → List ℕ → Type 0
 ReportedAs Made held handed page = (input : List ℕ) × OnPage (reportText input) handed page held
-ReportedAs (Broken number) held handed page = (logs : ℕ) × (total : ℕ) × Begun logs total handed page held
+ReportedAs (Stopped number) held handed page = (logs : ℕ) × (total : ℕ) × Begun logs total handed page held
 ReportedAs TooMany held handed page = (logs : ℕ) × (total : ℕ) × Begun logs total handed page held
 ReportedAs Told held handed page = Unit {0}
 

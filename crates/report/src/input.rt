@@ -3,7 +3,7 @@ use log_reader::pair_at;
 use streams::Ended;
 ghost use mathlib.Core.Path.{_≡_};
 ghost use lib.ListN.{length};
-ghost use Rattle.report.specs.Made.{Came};
+ghost use Rattle.report.specs.Made.{noHeading, behindHeading, Came};
 ghost use Rattle.report.specs.Report.{headingLength, mostBytes};
 
 // The bytes in front of a log.
@@ -26,6 +26,36 @@ pub(crate) enum Next {
     Failed(u32),
 }
 
+// What comes next where no whole heading could be read.
+fn no_heading(ended: Ended) -> Next
+    ensures { λ r. ⌜ r ≡ noHeading ended ⌝ }
+{
+    match ended {
+        Ended::After(count) => {
+            if count == 0 {
+                return Next::Nothing;
+            }
+            Next::Cut
+        }
+        Ended::Failed(number) => Next::Failed(number),
+    }
+}
+
+// What comes next behind a heading, by how reading the log ended.
+fn behind_heading(groups: usize, length: usize, ended: Ended) -> Next
+    ensures { λ r. ⌜ r ≡ behindHeading groups length ended ⌝ }
+{
+    match ended {
+        Ended::After(count) => {
+            if count < length {
+                return Next::Cut;
+            }
+            Next::Log(Heading { groups, length })
+        }
+        Ended::Failed(error) => Next::Failed(error),
+    }
+}
+
 // Reads the log behind a heading to the front of the space.
 fn read_behind(heading: &[u8], log: &mut [u8]) -> Next
     requires { ⌜ (length (now heading) ≡ headingLength) × (length (now log) ≡ mostBytes) ⌝ }
@@ -33,15 +63,7 @@ fn read_behind(heading: &[u8], log: &mut [u8]) -> Next
 {
     let groups = pair_at(heading, 0) as usize;
     let length = pair_at(heading, 2) as usize;
-    match streams::read(&mut log[..length]) {
-        Ended::After(count) => {
-            if count < length {
-                return Next::Cut;
-            }
-            Next::Log(Heading { groups, length })
-        }
-        Ended::Failed(number) => Next::Failed(number),
-    }
+    behind_heading(groups, length, streams::read(&mut log[..length]))
 }
 
 // Reads the next log to the front of the space.
@@ -50,16 +72,9 @@ pub(crate) fn read_next(log: &mut [u8]) -> Next
     ensures { λ r. ⌜ Came (now (log .exit)) r ⌝ }
 {
     let mut heading = [0u8; HEADING];
-    match streams::read(&mut heading) {
-        Ended::After(count) => {
-            if count == 0 {
-                return Next::Nothing;
-            }
-            if count < HEADING {
-                return Next::Cut;
-            }
-            read_behind(&heading, log)
-        }
-        Ended::Failed(number) => Next::Failed(number),
+    let ended = streams::read(&mut heading);
+    if streams::is_whole(ended, HEADING) {
+        return read_behind(&heading, log);
     }
+    no_heading(ended)
 }

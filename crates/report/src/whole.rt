@@ -30,6 +30,7 @@ pub(crate) struct Report {
     pub handed: usize,
 }
 
+// A report that ends so.
 fn ended(end: End, held: usize, handed: usize) -> Report
     ensures { λ r. ⌜ (r .end ≡ end) × (r .held ≡ held) × (r .handed ≡ handed) ⌝ }
 {

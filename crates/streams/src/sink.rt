@@ -78,7 +78,7 @@ fn send_page(fd: i32, page: &[u8; PAGE], held: usize) -> Ended
     send(fd, &bytes[..held])
 }
 
-// Whether all of a text was taken.
+// Whether reading or writing went to the last of so many bytes.
 pub fn is_whole(sent: Ended, all: usize) -> bool
     ensures { λ r. ⌜ r ≡ isWhole sent all ⌝ }
 {

@@ -1,4 +1,4 @@
-//! What is tried with every invocation, and what has to come of it.
+//! What is tried, and what has to come of it.
 
 use crate::expected::{Said, Said::*, Written, Written::*};
 use crate::hindrance::{Hindrance, Hindrance::*, Setting};
@@ -12,15 +12,21 @@ pub const LIMIT: usize = 1024;
 const MUTE: Hindrance = Closed(2);
 const HOSTILE: Hindrance = Shim("hostile");
 
+/// What is tried with every invocation.
 pub const ALL: &[Case] = &[
     ("plain", &[], All, Silence),
     ("a directory", &[Directory], Nothing, Unread(21)),
     ("closed input", &[Closed(0)], Nothing, Unread(9)),
-    ("half is late, not awaited", &[Hasty], Nothing, Unread(11)),
+    ("half is late, not awaited", &[Hasty], OfHalf, Unread(11)),
     ("half is late, awaited", &[Late], All, Silence),
-    // the shim lets 10 bytes through before a read fails, and 100 before a write does
-    ("EIO of read", &[Shim("read")], Nothing, Unread(5)),
-    ("EIO of write", &[Shim("write")], First(100), Unwritten(5)),
+    // the shim lets so many bytes through before a read or a write fails
+    ("EIO of read", &[Shim("read 10")], Of(10), Unread(5)),
+    (
+        "EIO of write",
+        &[Shim("write 100")],
+        First(100),
+        Unwritten(5),
+    ),
     ("EIO of close", &[Shim("close")], All, Unwritten(5)),
     ("no space", &[Full], Nothing, Unwritten(28)),
     ("closed output", &[Closed(1)], Nothing, Unwritten(9)),
@@ -32,6 +38,7 @@ pub const ALL: &[Case] = &[
     ("write calls", &[Packets], All, Silence),
     // every second call is interrupted, and the others move 7 bytes at most
     ("hostile pipes", &[HOSTILE], All, Silence),
+    ("byte by byte", &[Shim("single")], All, Silence),
     ("hostile socket", &[HOSTILE, Packets], All, Silence),
     (
         "hostile, no space",
@@ -45,4 +52,39 @@ pub const ALL: &[Case] = &[
     ("mute, closed input", &[MUTE, Closed(0)], Nothing, Silence),
     ("mute, no space", &[MUTE, Full], Nothing, Silence),
     ("mute, limit", &[MUTE, Limit(LIMIT)], First(LIMIT), Silence),
+];
+
+/// What is tried besides where the output has more than one page: a failure behind the first.
+pub const PAGES: &[Case] = &[
+    (
+        "EIO of a late read",
+        &[Shim("read 500000")],
+        Of(500000),
+        Unread(5),
+    ),
+    (
+        "EIO of a late write",
+        &[Shim("write 70000")],
+        First(70000),
+        Unwritten(5),
+    ),
+    ("a late file limit", &[Limit(70000)], First(70000), Cut),
+    (
+        "a mild, late file limit",
+        &[MildLimit(70000)],
+        First(70000),
+        Cut,
+    ),
+    (
+        "mute, EIO of a late read",
+        &[MUTE, Shim("read 500000")],
+        Of(500000),
+        Silence,
+    ),
+    (
+        "mute, EIO of a late write",
+        &[MUTE, Shim("write 70000")],
+        First(70000),
+        Silence,
+    ),
 ];

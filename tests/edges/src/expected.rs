@@ -1,5 +1,6 @@
 //! What has to come of a run, and in what a run differs from it.
 
+use crate::invocations::Invocation;
 use crate::run::Ran;
 
 /// What standard output has to get of the good output.
@@ -8,6 +9,10 @@ pub enum Written {
     All,
     Nothing,
     First(usize),
+    /// What is printed of so many bytes of the input, where a read behind them fails.
+    Of(usize),
+    /// The same, of half the input.
+    OfHalf,
 }
 
 /// What standard error has to get: nothing, or one line with the number of an error, or one line that tells how much of
@@ -21,24 +26,27 @@ pub enum Said {
 }
 
 impl Written {
-    fn holds(self, output: &[u8], good: &[u8]) -> bool {
+    /// How many bytes of the good output are due.
+    fn due(self, invocation: &Invocation) -> usize {
         match self {
-            Written::All => output == good,
-            Written::Nothing => output.is_empty(),
-            Written::First(count) => good.get(..count) == Some(output),
+            Written::All => invocation.good.len(),
+            Written::Nothing => 0,
+            Written::First(count) => count,
+            Written::Of(count) => invocation.printed_of(count),
+            Written::OfHalf => invocation.printed_of(invocation.input.len() / 2),
         }
     }
 }
 
 impl Said {
-    /// How the line begins, if so many bytes of the whole output are there.
-    fn start(self, count: usize, whole: usize) -> String {
+    /// How the line begins, if so many bytes are there of those that were made.
+    fn start(self, count: usize, made: usize) -> String {
         let unwritten = "cannot write standard output:";
         match self {
             Said::Silence => String::new(),
             Said::Unread(error) => format!("cannot read standard input: error {error}"),
             Said::Unwritten(error) => format!("{unwritten} error {error}"),
-            Said::Cut => format!("{unwritten} cut behind {count} of {whole} bytes"),
+            Said::Cut => format!("{unwritten} cut behind {count} of {made} bytes"),
         }
     }
 
@@ -56,19 +64,25 @@ impl Said {
 }
 
 /// What was seen and was not due. Whatever fails, the exit status is 0.
-pub fn differences(ran: &Ran, written: Written, said: Said, good: &[u8]) -> Vec<String> {
+pub fn differences(
+    ran: &Ran,
+    written: Written,
+    said: Said,
+    invocation: &Invocation,
+) -> Vec<String> {
+    let good = &invocation.good;
     let (count, whole) = (ran.output.len(), good.len());
     let mut seen = Vec::new();
     if ran.ended != "exit status: 0" {
         seen.push(format!("ended with {}", ran.ended));
     }
-    if !written.holds(&ran.output, good) {
+    if good.get(..written.due(invocation)) != Some(&ran.output) {
         let pairs = ran.output.iter().zip(good);
         let same = pairs.take_while(|(a, b)| a == b).count();
         let wrote = format!("wrote {count} bytes, {same} of them as the {whole} of a good run");
         seen.push(format!("{wrote}, due: {written:?}"));
     }
-    let start = said.start(count, whole);
+    let start = said.start(count, invocation.made_by(count));
     if !said.holds(&ran.said, &start) {
         seen.push(format!("said {:?}, due: {start:?}", ran.said));
     }

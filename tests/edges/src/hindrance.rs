@@ -47,6 +47,7 @@ pub fn is_limited(setting: Setting) -> bool {
 /// that the bytes have to fit into the pipe; every input does.
 pub fn source(setting: Setting, bytes: &[u8]) -> (Stdio, PipeWriter) {
     let (reader, mut writer) = pipe().unwrap();
+    posix::widen(&writer).expect("a pipe holds a million bytes");
     writer.write_all(bytes).unwrap();
     if setting.contains(&Directory) {
         return (File::open("/").unwrap().into(), writer);

@@ -1,8 +1,8 @@
 //! The few functions of C that the standard library does not offer, with the numbers that 64-bit Linux has for them.
 
 use std::ffi::{c_int, c_uint};
-use std::io::{Error, Result};
-use std::os::fd::{FromRawFd, OwnedFd};
+use std::io::{Error, PipeWriter, Result};
+use std::os::fd::{AsRawFd, FromRawFd, OwnedFd};
 
 extern "C" {
     fn alarm(seconds: c_uint) -> c_uint;
@@ -15,6 +15,7 @@ extern "C" {
 }
 
 const F_SETFL: c_int = 4;
+const F_SETPIPE_SZ: c_int = 1031;
 const O_NONBLOCK: c_int = 0o4000;
 const RLIMIT_FSIZE: c_int = 1;
 const SIGPIPE: c_int = 13;
@@ -59,6 +60,11 @@ pub fn close_file(file: c_int) -> Result<()> {
 /// Lets a read fail where nothing is there yet.
 pub fn never_wait(file: c_int) -> Result<()> {
     done(unsafe { fcntl(file, F_SETFL, O_NONBLOCK) })
+}
+
+/// Lets a pipe hold the longest input.
+pub fn widen(pipe: &PipeWriter) -> Result<()> {
+    done(unsafe { fcntl(pipe.as_raw_fd(), F_SETPIPE_SZ, 1 << 20) })
 }
 
 /// A socket that keeps write calls apart, one packet for each: the end to read and the end to write.

@@ -1,10 +1,9 @@
--- `report::input::read_next` meets its contract: a heading that is not whole is cut.
+-- `report::input::read_next` meets its contract: behind a whole heading stands a log, and what else came is classed.
 -- Assumes nothing.
-use native.Mathlib.Omega.{arith}
+use mathlib.Core.Path.{sym, _∙_}
 use denote.Ref.{now}
 use borrow.Author.Needs.{needs}
-use Rattle.streams.proofs.Progress.{read-whole}
-use Rattle.report.proofs.Cut.{cut-in-heading}
+use Rattle.report.proofs.Came.{no-heading-came}
 use Rattle.report.proofs.input.read_next.Statement.{statement}
 use Rattle.report.proofs.input.read_next.Tie as tie
 
@@ -14,18 +13,8 @@ slice-aggregate-read c = search needs
 read-requires : tie.Need-read-requires
 read-requires c κs = search needs
 
-enum-known-count : tie.Need-enum-known-count
-enum-known-count c = search needs
-
-returns : tie.Need-returns
-returns c = search needs
-
-returns-2 : tie.Need-returns-2
-returns-2 c =
-    let count = c .before .before .before in
-    let read = count .before .before .before .read in
-    let whole = read-whole (read .result) _ _ (count .count .given .1) (read .ensures) in
-    cut-in-heading (now (count .before .before .before .before .before .before .args .log)) (read .last .0) (count .count .given .0 .0) (omega (arith, c .before .if1 .left)) (c .if2 .taken) (whole .0)
+is-whole-requires : tie.Need-is-whole-requires
+is-whole-requires c κs = search needs
 
 slice-aggregate-read-behind : tie.Need-slice-aggregate-read-behind
 slice-aggregate-read-behind c = search needs
@@ -36,14 +25,19 @@ read-behind-requires c κs = search needs
 same-length : tie.Need-same-length
 same-length c = search needs
 
-returns-3 : tie.Need-returns-3
-returns-3 c = search needs
+returns : tie.Need-returns
+returns c = search needs
 
-enum-known-number : tie.Need-enum-known-number
-enum-known-number c = search needs
+no-heading-requires : tie.Need-no-heading-requires
+no-heading-requires c κs = search needs
 
-returns-4 : tie.Need-returns-4
-returns-4 c = search needs
+returns-2 : tie.Need-returns-2
+returns-2 c =
+    let is-whole = c .before .before in
+    let read = is-whole .before .before .read in
+    let start = is-whole .before .before .before .before .before in
+    rw (c .no-heading .ensures)
+    (no-heading-came (now (start .args .log)) (read .last .0) (read .kept .0) (read .result) (read .ensures) (sym (is-whole .is-whole .ensures) ∙ c .before .if1 .left))
 
 pub read-next-spec : {M : Type 1} → statement M
 read-next-spec =
@@ -51,12 +45,10 @@ read-next-spec =
     (tie.spec
     slice-aggregate-read
     read-requires
-    enum-known-count
-    returns
-    returns-2
+    is-whole-requires
     slice-aggregate-read-behind
     read-behind-requires
-    enum-known-number
     same-length
-    returns-3
-    returns-4)
+    returns
+    no-heading-requires
+    returns-2)

@@ -9,7 +9,7 @@ use lib.Seq.{length-take-le}
 use Rattle.answer.specs.Answer.{delivered}
 use Rattle.sense_log.specs.Log.{marks}
 use Rattle.report.specs.Report.{answerOf, marksOf}
-use Rattle.report.proofs.Answered.{maps-fit, marks-few, is-delivered, is-refused, maps-in-front}
+use Rattle.report.proofs.Answered.{maps-fit, marks-few, is-delivered, refusal-put, maps-in-front}
 use borrow.Author.Needs.{needs}
 use Rattle.report.proofs.line.put_log.Statement.{statement}
 use Rattle.report.proofs.line.put_log.Tie as tie
@@ -90,12 +90,8 @@ returns-2 : tie.Need-returns-2
 returns-2 c =
     let refusal = c .before .before .before .refusal .given in
     let at = c .before .before .before .before .before .before .before in
-    let start = at .before .before .before .before in (
-      _,
-      _,
-      is-refused (start .args .groups) (now (start .args .log)) _ (at .read-log .result) (at .read-log .ensures .0) (start .pre .0) _ (refusal .1),
-      c .put-refusal .ensures,
-    )
+    let start = at .before .before .before .before in
+    refusal-put (start .args .groups) (now (start .args .log)) _ (at .read-log .result) (at .read-log .ensures .0) (start .pre .0) _ (refusal .1) (start .args .total) (start .args .held) _ _ _ (c .put-refusal .ensures)
 
 pub put-log-spec : {M : Type 1} → statement M
 put-log-spec =

@@ -12,7 +12,7 @@ use Rattle.report.specs.Made.{NextPut}
 use Rattle.report.specs.Report.{mapsLent, mostBytes}
 use Rattle.report.specs.declared.line.Line.{Line}
 use Rattle.report.specs.declared.line.Line.the-variants.{Marks, Last, Unread}
-use Rattle.report.specs.declared.whole.End.the-variants.{Made, Unread as Broken, TooMany, Told}
+use Rattle.report.specs.declared.whole.End.the-variants.{Made, Unread as Stopped, TooMany, Told}
 use Rattle.report.proofs.State.{State, state-as, state-bound, state-none, whole-kept, state-passed, state-more, state-last, last-bound, reported}
 use Rattle.report.proofs.whole.make_report.Statement.{statement}
 use Rattle.report.proofs.whole.make_report.Tie as tie
@@ -129,7 +129,7 @@ returns-3 c =
     let at = done .before .before .before .before in
     let l = at .before .before .loop in
     let state = state-as (room at .0) refl (put done (Unread (number .0 .0)) (number .1)) refl in
-    reported _ (c .ended3 .result) (Broken (number .0 .0)) (at .if1 .held) (at .if1 .handed) (c .ended3 .ensures) (l .k, l .total, state .begun) (omega (arith, l .inv .0, state-bound state))
+    reported _ (c .ended3 .result) (Stopped (number .0 .0)) (at .if1 .held) (at .if1 .handed) (c .ended3 .ensures) (l .k, l .total, state .begun) (omega (arith, l .inv .0, state-bound state))
 
 add-k : tie.Need-add-k Inv-loop μ-loop
 add-k c = search needs

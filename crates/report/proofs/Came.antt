@@ -1,0 +1,54 @@
+-- What came of reading a heading and the log behind it: input that is cut, or a log.
+-- Assumes nothing.
+use Prim.Native.Nat.{ℕ, _+_, _*_, _≤_, _<_}
+use mathlib.Core.Path.{_≡_, refl, ap₂}
+use mathlib.Core.Bool.{Bool, true, false, cond}
+use mathlib.Core.List.{List, _++_}
+use native.Mathlib.Omega.{arith}
+use borrow.Author.Tests.{ltb-true, eqb-false}
+use lib.Dec.{eqb, ltb}
+use lib.ListN.{length, take, drop, length-append, List·getD-append}
+use lib.Seq.{length-take-le}
+use Rattle.log_reader.specs.Pair.{pairAt}
+use Rattle.streams.specs.Ended.{Filled, isWhole}
+use Rattle.transfer.specs.declared.Ended.{Ended}
+use Rattle.transfer.specs.declared.Ended.the-variants.{After, Failed as Broken}
+use Rattle.report.specs.Made.{noHeading, behindHeading, Came}
+use Rattle.report.specs.Report.{headingLength, groupsAt, lengthAt}
+use Rattle.report.specs.declared.input.Next.the-variants.{Log, Nothing, Cut}
+
+-- what stands in front does not depend on what comes behind
+pub pair-in-front : (front behind : List ℕ) (at : ℕ) → at + 1 < length front → pairAt (front ++ behind) at ≡ pairAt front at
+pair-in-front front behind at h =
+    ap₂ (λ (low high : ℕ). low + 256 * high) (List·getD-append front behind 0 at (omega arith)) (List·getD-append front behind 0 (at + 1) h)
+
+-- a space has its length once its front was filled
+pub still-long : (count : ℕ) (space front : List ℕ) → count ≤ length space → length front ≡ length (take count space) → count ≤ length (front ++ drop count space)
+still-long count space front h same = omega (arith, length-append front (drop count space), length-take-le count space h)
+
+module _ (log heading : List ℕ) (whole : length heading ≡ headingLength) where
+  -- a heading that is not whole
+  pub no-heading-came : (ended : Ended) → Filled ended heading → isWhole ended headingLength ≡ false → Came log (noHeading ended)
+  no-heading-came (After count) filled part = by (eqb count 0) refl
+    where
+      by : (b : Bool) → eqb count 0 ≡ b → Came log (cond b Nothing Cut)
+      by true e = tt
+      by false e =
+          let some : 0 < count = omega (arith, eqb-false count 0 e) in
+          let few : count < headingLength = omega (arith, filled .0, eqb-false count headingLength part) in
+          (take count heading, omega (arith, filled .1), omega (arith, filled .1))
+  no-heading-came (Broken number) filled part = tt
+
+  -- a log that is cut, and one that is whole
+  module _ (groups size : ℕ) (tells-groups : groups ≡ groupsAt heading) (tells-size : size ≡ lengthAt heading) (space : size ≤ length log) where
+    pub log-came : (ended : Ended) (front : List ℕ) → Filled ended front → Came log (behindHeading groups size ended)
+    log-came (After count) front filled = by (ltb count size) refl
+      where
+        by : (b : Bool) → ltb count size ≡ b → Came log (cond b Cut (Log (record { groups = groups; length = size })))
+        by true e =
+            let part : List ℕ = take count front in
+            let long = length-append heading part in
+            let same = pair-in-front heading part 2 (omega arith) in
+            (heading ++ part, omega (arith, long), omega (arith, long, same, filled .1, ltb-true count size e))
+        by false e = (heading, whole, tells-groups, tells-size, space)
+    log-came (Broken number) front filled = tt
