@@ -1,16 +1,19 @@
 -- What suits in a log: its length and its maps, and what a length that suits says.
 -- Assumes nothing.
 use Prim.Native.Nat.{ℕ, _+_, _-_, _*_, _/_, _<_, _≤_}
-use mathlib.Core.Path.{_≡_, refl, sym, _∙_}
-use mathlib.Core.Bool.{Bool, true, false, _&&_}
+use mathlib.Core.Path.{_≡_, refl, sym, ap, _∙_}
+use mathlib.Core.Bool.{Bool, true, false, cond, _&&_}
 use mathlib.Core.List.{List}
 use native.Mathlib.Omega.{arith}
-use borrow.Author.Tests.{le-leb, lt-leb, lt-ltb, le-ltb, ne-eqb}
+use borrow.Author.Tests.{le-leb, lt-leb, lt-ltb, le-ltb, eq-eqb, ne-eqb}
 use lib.Dec.{eqb, leb, ltb}
 use lib.ListN.{length}
+use Rattle.indexed.specs.List.{tabulate, total}
+use Rattle.indexed.proofs.Tabulate.{tabulate-same}
 use Rattle.indexed.proofs.Test.{all-true, all-false}
+use Rattle.indexed.proofs.Total.{none-of-total}
 use Rattle.rectangular.specs.Constants.{mostMap, mostGroups}
-use Rattle.sense_log.specs.Back.{groupBit, standingBits, suitingLength, lengthSuits, storedMap, mapsSuit}
+use Rattle.sense_log.specs.Back.{groupBit, standingBits, suitingLength, lengthSuits, storedMap, mapsSuit, mapBack, mapsOf}
 use Rattle.sense_log.specs.Log.{bitMapLength}
 use Rattle.sense_log.proofs.Bits.{standing-within}
 use Rattle.sense_log.proofs.Good.{length-told}
@@ -40,6 +43,14 @@ module _ (groups : ℕ) (log : List ℕ) where
     -- so many maps stand behind the bit map
     pub maps-stored : (length log - bitMapLength groups) / 2 ≡ standingBits log groups
     maps-stored = omega (arith, length-told groups log suits .2)
+
+    -- a log that is its bit map has no bit that stands
+    pub none-marked : length log ≡ bitMapLength groups → mapsOf groups log ≡ tabulate groups (λ g. 0)
+    unfolding mapsOf mapBack standingBits
+    none-marked short =
+        let none : total groups (groupBit log) ≡ 0 = omega (arith, length-told groups log suits .2) in
+        tabulate-same groups (mapBack groups log) (λ g. 0)
+        (λ g h. ap (λ (b : Bool). cond b 0 (storedMap groups log (standingBits log g))) (eq-eqb (groupBit log g) 0 (none-of-total groups (groupBit log) none g h)))
 
     -- the two bytes of a group whose bit stands are in the log
     pub map-within : (g : ℕ) → g < groups → 0 < groupBit log g → bitMapLength groups + 2 * standingBits log g + 1 < length log

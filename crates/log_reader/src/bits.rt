@@ -15,6 +15,16 @@ fn lowest_ones(byte: u8, bits: usize) -> usize
     u8::count_ones(byte % (1 << bits)) as usize
 }
 
+// How many of a byte's bits stand. Most bytes have none, and that is seen at once.
+fn all_ones(byte: u8) -> usize
+    ensures { λ r. ⌜ r ≡ ones byte ⌝ }
+{
+    if byte == 0 {
+        return 0;
+    }
+    u8::count_ones(byte) as usize
+}
+
 // How many of the groups' bits stand, byte by byte; spare bits behind them do not count.
 pub(crate) fn standing_bits(log: &[u8], groups: usize) -> usize
     requires { ⌜ (groups ≤ mostGroups) × (bitMapLength groups ≤ length (now log)) ⌝ }
@@ -25,7 +35,7 @@ pub(crate) fn standing_bits(log: &[u8], groups: usize) -> usize
     let mut count: usize = 0;
     let mut b = 0;
     while b < whole {
-        count += u8::count_ones(log[b]) as usize;
+        count += all_ones(log[b]);
         b += 1;
     }
     if left == 0 {

@@ -14,6 +14,7 @@ ghost use mathlib.Core.List.{_++_};
 ghost use mathlib.Core.Path.{_≡_};
 ghost use Prim.Native.Nat.{_≤_};
 ghost use lib.ListN.{length, drop};
+ghost use Rattle.indexed.specs.List.{tabulate};
 ghost use Rattle.answer.specs.Answer.{refusedFor, outputAfter};
 ghost use Rattle.sense_log.specs.Back.{lengthSuits, contentSuits, mapsOf, readLogAnswer};
 ghost use Rattle.log_reader.specs.Told.{toldBack};
@@ -55,8 +56,20 @@ fn content_suits(groups: usize, log: &[u8]) -> bool
     false
 }
 
+// Stores a zero for each group.
+fn clear(groups: usize, maps: &mut [u16])
+    requires { ⌜ groups ≤ length (now maps) ⌝ }
+    ensures { λ _. ⌜ now (maps .exit) ≡ tabulate groups (λ g. 0) ++ drop groups (now (maps .entry)) ⌝ }
+{
+    let mut g = 0;
+    while g < groups {
+        maps[g] = 0;
+        g += 1;
+    }
+}
+
 // Stores the map of each group: zero, or, where its bit stands, the next of those in the log.
-fn deliver(groups: usize, log: &[u8], maps: &mut [u16])
+fn deliver_marked(groups: usize, log: &[u8], maps: &mut [u16])
     requires { ⌜ (lengthSuits groups (now log) ≡ true) × (groups ≤ length (now maps)) ⌝ }
     ensures { λ _. ⌜ now (maps .exit) ≡ mapsOf groups (now (log .entry)) ++ drop groups (now (maps .entry)) ⌝ }
 {
@@ -67,6 +80,18 @@ fn deliver(groups: usize, log: &[u8], maps: &mut [u16])
         maps[g] = map_of_group(bit, log, at);
         at += 2 * (bit as usize);
         g += 1;
+    }
+}
+
+// Stores the map of each group. Most logs are of records in which nothing was changed, and that is seen by the length.
+fn deliver(groups: usize, log: &[u8], maps: &mut [u16])
+    requires { ⌜ (lengthSuits groups (now log) ≡ true) × (groups ≤ length (now maps)) ⌝ }
+    ensures { λ _. ⌜ now (maps .exit) ≡ mapsOf groups (now (log .entry)) ++ drop groups (now (maps .entry)) ⌝ }
+{
+    if log.len() == bit_map_length(groups) {
+        clear(groups, maps);
+    } else {
+        deliver_marked(groups, log, maps);
     }
 }
 

@@ -24,20 +24,18 @@ loop-holds : tie.Need-loop-holds Inv-loop μ-loop
 unfolding standingBits total
 loop-holds c = (search needs, refl)
 
-shared-slice-read-count : tie.Need-shared-slice-read-count Inv-loop μ-loop
-shared-slice-read-count c = search needs
+shared-slice-read-all-ones : tie.Need-shared-slice-read-all-ones Inv-loop μ-loop
+shared-slice-read-all-ones c = search needs
 
-cast-count : tie.Need-cast-count Inv-loop μ-loop
-cast-count c =
-    let log = now (c .before .before .before .before .args .log) in
-    let b = c .before .before .loop .b in
-    omega (arith, ones-le 8 (getD log b 0) (c .shared-slice-known2 .given b .fits))
+all-ones-requires : tie.Need-all-ones-requires Inv-loop μ-loop
+all-ones-requires c κs = search needs
 
 add-count : tie.Need-add-count Inv-loop μ-loop
 add-count c =
-    let log = now (c .before .before .before .before .args .log) in
-    let b = c .before .before .loop .b in
-    omega (arith, ones-le 8 (getD log b 0) (c .shared-slice-known2 .given b .fits), standing-le log (8 * b))
+    let read = c .before in
+    let log = now (read .before .before .before .before .args .log) in
+    let b = read .before .before .loop .b in
+    omega (arith, c .all-ones .ensures, ones-le 8 (getD log b 0) (read .shared-slice-known2 .given b .fits), standing-le log (8 * b))
 
 add-b : tie.Need-add-b Inv-loop μ-loop
 add-b c = search needs
@@ -47,10 +45,11 @@ loop-less c = search needs
 
 loop-again : tie.Need-loop-again Inv-loop μ-loop
 loop-again c =
-    let log = now (c .before .before .before .before .args .log) in
-    let at = c .before .before .loop in (
+    let read = c .before in
+    let log = now (read .before .before .before .before .args .log) in
+    let at = read .before .before .loop in (
       search needs,
-      ap (λ (x : ℕ). x + ones (getD log (at .b) 0)) (at .inv .1) ∙ sym (standing-byte log (at .b) (c .shared-slice-known2 .given (at .b) .fits)),
+      ap₂ _+_ (at .inv .1) (c .all-ones .ensures) ∙ sym (standing-byte log (at .b) (read .shared-slice-known2 .given (at .b) .fits)),
     )
 
 returns : tie.Need-returns Inv-loop μ-loop
@@ -93,8 +92,8 @@ standing-bits-spec =
     Inv-loop
     μ-loop
     loop-holds
-    shared-slice-read-count
-    cast-count
+    shared-slice-read-all-ones
+    all-ones-requires
     add-count
     add-b
     loop-less
