@@ -1,14 +1,14 @@
 // The maps of changed tracks that stand in a log behind its bit map, one for each group whose bit stands.
-use crate::pair::pair_at;
 use rectangular::Code6250;
 use sense_log::bit_map_length;
+use sense_log::pair_at;
 ghost use mathlib.Core.Bool.{true, cond};
 ghost use mathlib.Core.Path.{_≡_};
 ghost use Prim.Native.Nat.{_+_, _<_};
 ghost use lib.Dec.{eqb};
 ghost use lib.ListN.{length};
 ghost use Rattle.sense_log.specs.Back.{lengthSuits, mapsSuit};
-ghost use Rattle.log_reader.specs.Pair.{pairAt};
+ghost use Rattle.sense_log.specs.Pair.{pairAt};
 
 // The map of a group whose bit this is, where the next of the maps stands from an index on: zero if the bit does not stand.
 pub(crate) fn map_of_group(bit: u8, log: &[u8], at: usize) -> u16

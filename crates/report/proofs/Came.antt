@@ -9,7 +9,7 @@ use borrow.Author.Tests.{ltb-true, eqb-false}
 use lib.Dec.{eqb, ltb}
 use lib.ListN.{length, take, drop, length-append, List·getD-append}
 use lib.Seq.{length-take-le}
-use Rattle.log_reader.specs.Pair.{pairAt}
+use Rattle.sense_log.specs.Pair.{pairAt}
 use Rattle.streams.specs.Ended.{Filled, isWhole}
 use Rattle.transfer.specs.declared.Ended.{Ended}
 use Rattle.transfer.specs.declared.Ended.the-variants.{After, Failed as Broken}

@@ -10,7 +10,7 @@ use lib.ListN.{length, take, drop, length-append}
 use lib.Seq.{take-at, drop-at}
 use Rattle.answer.specs.Answer.{Answer, delivered, refused}
 use Rattle.answer_text.specs.Refusal.{refusalText}
-use Rattle.log_reader.specs.Pair.{pairAt}
+use Rattle.sense_log.specs.Pair.{pairAt}
 use Rattle.page.specs.Page.{Printed}
 use Rattle.report.specs.Made.{LogPut, Lines, LastPut, NextPut}
 use Rattle.report.specs.Report.{headingLength, answerOf, marksOf, countText, cutText, logText, groupsAt, lengthAt, logAt, reportFrom}

@@ -10,7 +10,7 @@ use lib.ListN.{length, take, drop}
 use Rattle.answer.specs.Answer.{Answer, delivered, refused, numberOf}
 use Rattle.answer.specs.declared.Reason.the-variants.{LogLength}
 use Rattle.answer_text.specs.Refusal.{refusalText}
-use Rattle.log_reader.specs.Pair.{pairAt}
+use Rattle.sense_log.specs.Pair.{pairAt}
 use Rattle.page.specs.Ascii.{ascii}
 use Rattle.page.specs.Page.{decimalText}
 use Rattle.sense_log.specs.Back.{mapsOf, readLogAnswer}

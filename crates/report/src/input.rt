@@ -1,5 +1,5 @@
 // The next log of standard input, which stands behind its group count and its length, two bytes each, low one first.
-use log_reader::pair_at;
+use sense_log::pair_at;
 use streams::Ended;
 ghost use mathlib.Core.Path.{_≡_};
 ghost use lib.ListN.{length};

@@ -12,6 +12,7 @@ use Rattle.answer.specs.Answer.{Answer, delivered, refusedFor}
 use Rattle.answer.specs.declared.Reason.the-variants.{Space, LogLength, LogContent}
 use Rattle.rectangular.specs.Constants.{mostMap, mostGroups}
 use Rattle.sense_log.specs.Log.{bitMapLength}
+use Rattle.sense_log.specs.Pair.{pairAt}
 
 -- the bit of group g, and how many of the first groups' bits stand
 unfoldable pub groupBit : List ℕ → ℕ → ℕ
@@ -35,7 +36,7 @@ module _ (groups : ℕ) (log : List ℕ) where
 
   -- the maps of tracks that stand in the log, in the order of their groups
   unfoldable pub storedMap : ℕ → ℕ
-  storedMap k = getD log (bitMapLength groups + 2 * k) 0 + 256 * getD log (bitMapLength groups + 2 * k + 1) 0
+  storedMap k = pairAt log (bitMapLength groups + 2 * k)
 
   -- none of them is 0 or above 511
   unfoldable pub mapsSuit : Bool

@@ -1,3 +1,4 @@
+pub mod Pair
 pub mod Log
 pub mod Back
 pub mod Written

@@ -13,7 +13,7 @@ use Rattle.indexed.specs.List.{tabulate, tabulateFrom, total}
 use Rattle.indexed.proofs.Front.{tabulated-more}
 use Rattle.sense_log.specs.Back.{standingBits, storedMap, mapBack, mapsOf}
 use Rattle.sense_log.specs.Log.{bitMapLength}
-use Rattle.log_reader.specs.Pair.{pairAt}
+use Rattle.sense_log.specs.Pair.{pairAt}
 use Rattle.sense_log.proofs.Bits.{group-bit-lt, standing-more, standing-le}
 use Rattle.sense_log.proofs.Good.{length-told}
 use Rattle.log_reader.proofs.Suits.{map-within}

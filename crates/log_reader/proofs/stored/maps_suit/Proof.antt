@@ -8,7 +8,7 @@ use native.Mathlib.Omega.{arith}
 use denote.Ref.{now}
 use Rattle.indexed.proofs.Below.{one-more-below}
 use Rattle.sense_log.specs.Back.{standingBits, storedMap}
-use Rattle.log_reader.specs.Pair.{pairAt}
+use Rattle.sense_log.specs.Pair.{pairAt}
 use Rattle.sense_log.proofs.Good.{length-told}
 use Rattle.log_reader.proofs.Suits.{suited, maps-stored, map-none, map-stray, map-right, one-unsuited, all-suited}
 use borrow.Author.Needs.{needs}
