@@ -13,7 +13,7 @@ use Rattle.indexed.specs.List.{tabulate, tabulateFrom, blocks}
 use Rattle.record6250.specs.Read.{answerIf}
 use Rattle.scan6250.specs.Told.{reached, mapsGathered}
 use Rattle.scan6250.proofs.Whole.{maps-in-front, maps-within}
-use Rattle.sense_log.specs.Log.{bitMapLength, logSpace, bitMap, logOf}
+use Rattle.sense_log.specs.Log.{logSpace, bitMap, logOf}
 use Rattle.sense_log.specs.Written.{logged, readingLog}
 use Rattle.sense_log.proofs.Written.{reading-log-within}
 use Rattle.log_writer.specs.Stored.{groupsLogged}

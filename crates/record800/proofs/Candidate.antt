@@ -2,18 +2,17 @@
 -- written record, its sums are the reading's and the wrong characters' own, and where the track holds it is a written record.
 -- Assumes nothing.
 use mathlib.Core.Path.{_≡_, refl, sym, ap, ap₂, _∙_}
-use mathlib.Core.Bool.{Bool, true, false, true≢false, cond, _&&_}
+use mathlib.Core.Bool.{Bool, true, false, cond, _&&_}
 use mathlib.Core.List.{List}
-use Prim.Native.Nat.{ℕ, zero, suc, _+_, _*_, _%_, _^_, _<_}
+use Prim.Native.Nat.{ℕ, _+_, _*_, _%_, _^_, _<_}
 use native.Mathlib.Nat.{zero-mul}
-use native.Mathlib.Decide.{decLt}
 use native.Mathlib.Omega.{arith}
 use borrow.Author.Tests.{eqb-true, eq-eqb, ne-eqb}
 use lib.Bits.{xor-lt, xor-self, xor-zero-r}
 use lib.Dec.{eqb, lit<}
 use lib.ListN.{getD}
 use lib.Pow.{pow-lt}
-use Rattle.indexed.specs.List.{tabulate, total}
+use Rattle.indexed.specs.List.{tabulate}
 use Rattle.indexed.proofs.Test.{both-true}
 use Rattle.indexed.proofs.Total.{total-none, none-of-total}
 use Rattle.register.specs.Parity.{parity}

@@ -1,7 +1,7 @@
 -- A written log is good, and reads back to the maps that it was written for.
 -- Assumes nothing.
-use mathlib.Core.Path.{_≡_, refl, sym, ap, ap₂, subst, _∙_}
-use mathlib.Core.Bool.{Bool, true, false, cond}
+use mathlib.Core.Path.{_≡_, refl, sym, ap, ap₂, _∙_}
+use mathlib.Core.Bool.{Bool, true, cond}
 use mathlib.Core.List.{List, [], _∷_}
 use Prim.Native.Nat.{ℕ, _+_, _*_, _/_, _%_, _<_, _≤_}
 use native.Mathlib.Decide.{decLt}
@@ -10,7 +10,7 @@ use borrow.Author.Tests.{eq-eqb, ne-eqb, le-leb}
 use lib.Dec.{eqb}
 use lib.ListN.{length, getD, List·getD-eq-default}
 use lib.Seq.{getD-append-add}
-use Rattle.indexed.specs.List.{tabulate, total}
+use Rattle.indexed.specs.List.{total}
 use Rattle.indexed.proofs.Joined.{getD-joined}
 use Rattle.indexed.proofs.Tabulate.{length-tabulate, tabulate-same, tabulate-getD}
 use Rattle.indexed.proofs.Total.{one-of-total}
@@ -20,7 +20,7 @@ use Rattle.sense_log.specs.Log.{bitMapLength, standing, bitMap, mapBytes
 use Rattle.sense_log.proofs.Answer.{back-all}
 use Rattle.sense_log.proofs.Bits.{stored, bitOf, length-bitMap, length-stored, length-log, bit-written, bits-written}
 use Rattle.sense_log.proofs.Good.{length-suits, spare-clear, maps-suit, content-suits}
-use Rattle.sense_log.proofs.Standing.{standing-none, standing-some, standing-lt, nothing-stands, two-bytes}
+use Rattle.sense_log.proofs.Standing.{standing-none, standing-some, standing-lt, two-bytes}
 
 -- there is a map for each group
 pub length-mapsOf : (groups : ℕ) (log : List ℕ) → length (mapsOf groups log) ≡ groups

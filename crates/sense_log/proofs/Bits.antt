@@ -1,12 +1,12 @@
 -- The bits of a log, and those of a written one: the length of its bit map, and each group's bit in it.
 -- Assumes nothing.
 use mathlib.Core.Path.{_≡_, ap, ap₂, _∙_}
-use mathlib.Core.List.{List, _++_}
+use mathlib.Core.List.{List}
 use Prim.Native.Nat.{ℕ, _+_, _*_, _/_, _%_, _<_, _≤_}
 use native.Mathlib.Numerals.{add-one}
 use native.Mathlib.Omega.{arith}
 use lib.ListN.{length, getD, length-append, List·getD-append}
-use Rattle.indexed.specs.List.{tabulate, blocks, total}
+use Rattle.indexed.specs.List.{blocks, total}
 use Rattle.indexed.proofs.Tabulate.{length-tabulate, getD-tabulate}
 use Rattle.indexed.proofs.Joined.{length-joined}
 use Rattle.indexed.proofs.Total.{total-same, total-within, total-digits, total-twice}

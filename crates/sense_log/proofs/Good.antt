@@ -1,14 +1,13 @@
 -- A good log: what it says that its length suits, that its spare bits are zero, and that its maps are those of a reading; and back.
 -- Assumes nothing.
-use mathlib.Core.Path.{_≡_, refl, sym, ap, ap₂, subst, _∙_}
-use mathlib.Core.Bool.{Bool, true, false, _&&_}
+use mathlib.Core.Path.{_≡_, sym, ap₂, subst}
+use mathlib.Core.Bool.{true, _&&_}
 use mathlib.Core.List.{List}
 use Prim.Native.Nat.{ℕ, _+_, _-_, _*_, _<_, _≤_}
 use native.Mathlib.Omega.{arith}
 use borrow.Author.Tests.{leb-true, eqb-true, ltb-true, le-leb, lt-ltb, eq-eqb}
 use lib.Dec.{T, eqb, eqb→eq, leb, ltb, ltb→lt, leb→le}
 use lib.ListN.{length}
-use Rattle.indexed.specs.Test.{allBelow}
 use Rattle.indexed.proofs.Test.{both-true, both-left, both-right, tested, all-true}
 use Rattle.sense_log.specs.Back.{groupBit, standingBits, suitingLength, lengthSuits, spareClear, storedMap, mapsSuit, contentSuits}
 use Rattle.sense_log.specs.Log.{bitMapLength}

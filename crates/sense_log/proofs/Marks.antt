@@ -1,7 +1,7 @@
 -- The marks of a good log: nine a group at most.
 -- Assumes nothing.
-use Prim.Native.Nat.{ℕ, zero, suc, _+_, _*_, _^_, _<_, _≤_}
-use mathlib.Core.Path.{_≡_, refl, ap, _∙_}
+use Prim.Native.Nat.{ℕ, _*_, _^_, _<_, _≤_}
+use mathlib.Core.Path.{_≡_, refl}
 use mathlib.Core.Bool.{Bool, true, false, cond}
 use mathlib.Core.List.{List}
 use native.Mathlib.Omega.{arith}
@@ -9,7 +9,6 @@ use borrow.Author.Tests.{eqb-false}
 use lib.Count.{ones, ones-le}
 use lib.Dec.{eqb}
 use lib.ListN.{getD}
-use Rattle.indexed.specs.List.{total}
 use Rattle.indexed.proofs.Tabulate.{getD-tabulate}
 use Rattle.indexed.proofs.Total.{total-most}
 use Rattle.answer.specs.Answer.{delivered}

@@ -1,16 +1,13 @@
 -- The bits that stand: of one map, and counted over the groups.
 -- Assumes nothing.
-use mathlib.Core.Path.{_≡_, refl, sym, ap, _∙_}
-use mathlib.Core.Bool.{Bool, true, false, cond}
+use mathlib.Core.Path.{_≡_, sym, ap, _∙_}
+use mathlib.Core.Bool.{Bool, cond}
 use mathlib.Core.List.{[], _∷_}
-use Prim.Native.Nat.{ℕ, zero, suc, _+_, _*_, _/_, _%_, _<_, _≤_}
-use native.Mathlib.Nat.{not-suc-le-zero}
+use Prim.Native.Nat.{ℕ, _*_, _/_, _%_, _<_}
 use native.Mathlib.Decide.{decLt}
 use native.Mathlib.Omega.{arith}
-use borrow.Author.Tests.{eq-eqb, ne-eqb, eqb-true, eqb-false}
-use lib.Dec.{eqb}
+use borrow.Author.Tests.{eq-eqb, ne-eqb}
 use lib.ListN.{length}
-use Rattle.indexed.specs.List.{total}
 use Rattle.sense_log.specs.Log.{standing, mapBytes}
 
 -- ---- of one map
@@ -29,13 +26,6 @@ standing-lt m = by (decLt 0 m)
     by : Dec (0 < m) → standing m < 2
     by (yes h) = omega (arith, standing-some m h)
     by (no h) = omega (arith, standing-none m (omega arith))
-
-pub nothing-stands : (m : ℕ) → standing m ≡ 0 → m ≡ 0
-nothing-stands m e = by (decLt 0 m)
-  where
-    by : Dec (0 < m) → m ≡ 0
-    by (yes h) = absurd (omega (arith, standing-some m h))
-    by (no h) = omega arith
 
 -- its bytes
 pub no-bytes : (m : ℕ) → m ≡ 0 → mapBytes m ≡ []

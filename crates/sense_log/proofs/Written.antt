@@ -1,10 +1,10 @@
 -- The log of a reading: what writing it answers, that it has space, that it reads back to the reading's changed tracks, and that it is the
 -- same for the reading turned.
 -- Assumes nothing.
-use mathlib.Core.Path.{_≡_, refl, sym, ap, ap₂, _∙_}
+use mathlib.Core.Path.{_≡_, refl, sym, ap, _∙_}
 use mathlib.Core.Bool.{Bool, true, false, not}
 use mathlib.Core.List.{List, [], _∷_}
-use Prim.Native.Nat.{ℕ, _+_, _*_, _<_, _≤_}
+use Prim.Native.Nat.{ℕ, _<_, _≤_}
 use native.Mathlib.Omega.{arith}
 use lib.Count.{ones}
 use lib.Dec.{leb}
@@ -25,7 +25,7 @@ use Rattle.record6250.proofs.Backward.{answer-turned, turned-changed}
 use Rattle.record6250.proofs.Picture.{length-maps}
 use Rattle.record6250.proofs.Reading.{groups-within}
 use Rattle.sense_log.specs.Back.{mapsOf, readLogAnswer}
-use Rattle.sense_log.specs.Log.{bitMapLength, logSpace, standing, logOf, marks}
+use Rattle.sense_log.specs.Log.{logSpace, logOf, marks}
 use Rattle.sense_log.specs.Written.{logged, readingLog, logAnswer}
 use Rattle.sense_log.proofs.Back.{maps-back, log-delivered}
 use Rattle.sense_log.proofs.Bits.{length-log, bits-below}

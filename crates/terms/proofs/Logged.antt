@@ -6,7 +6,6 @@ use mathlib.Core.Bool.{Bool, true, false, not, cond}
 use mathlib.Core.List.{List, [], _∷_, _++_}
 use Prim.Native.Nat.{ℕ, _<_, _≤_}
 use native.Mathlib.Nat.{le-of-eq}
-use native.Mathlib.Omega.{arith}
 use borrow.Author.Tests.{le-leb}
 use lib.Dec.{eqb, leb}
 use lib.ListN.{length, getD, take, drop}
@@ -23,7 +22,7 @@ use Rattle.record6250.proofs.Fitting.{fits-delivered, delivered-fits, maps-chan
 use Rattle.record6250.specs.Fits as six
 use Rattle.record6250.specs.Fits.{mapsChanged}
 use Rattle.record6250.specs.Picture.{groupRead, pictureMaps, turnedNumbers}
-use Rattle.record6250.specs.Read.{lengthsSuit, readGroup, readData, changedMaps, judgedAnswer, answerIf}
+use Rattle.record6250.specs.Read.{readGroup, readData, judgedAnswer, answerIf}
 use Rattle.sense_log.proofs.Again.{log-again}
 use Rattle.sense_log.proofs.Answer.{back-delivered}
 use Rattle.sense_log.proofs.Back.{length-mapsOf}

@@ -1,14 +1,12 @@
 -- `log_writer::store::bit_map_byte` meets its contract. The loop's invariant: the bits from `i` on are entered.
 -- Assumes nothing.
-use mathlib.Core.Path.{_≡_, refl, sym, ap, ap₂, _∙_}
+use mathlib.Core.Path.{_≡_, refl, ap, ap₂, _∙_}
 use Prim.Native.Nat.{ℕ, _+_, _-_, _*_, _≤_}
 use native.Mathlib.Omega.{arith}
 use borrow.Author.Needs.{needs}
 use denote.Ref.{now}
-use lib.ListN.{getD, drop}
 use Rattle.indexed.specs.List.{tabulate, tabulateFrom}
 use Rattle.register.specs.Bit.{ofBits}
-use Rattle.sense_log.specs.Log.{standing}
 use Rattle.log_writer.proofs.Stored.{entered, entered-next, entered-lt, entered-all}
 use Rattle.log_writer.proofs.store.bit_map_byte.Statement.{statement}
 use Rattle.log_writer.proofs.store.bit_map_byte.Tie as tie

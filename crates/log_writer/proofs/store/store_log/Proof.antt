@@ -1,16 +1,15 @@
 -- `log_writer::store::store_log` meets its contract. The loop's invariant: the maps of the first `g` groups are stored behind the bit map.
 -- Assumes nothing.
 use mathlib.Core.Path.{_≡_, refl, sym, ap, ap₂, _∙_}
-use mathlib.Core.List.{List, _++_}
 use Prim.Native.Nat.{ℕ, _+_, _-_, _≤_}
 use native.Mathlib.Nat.{add-zero}
 use native.Mathlib.Omega.{arith}
 use borrow.Author.Needs.{needs}
 use denote.Ref.{now}
 use lib.ListN.{length}
-use lib.Seq.{sets, length-sets}
+use lib.Seq.{sets}
 use Rattle.indexed.specs.List.{blocks}
-use Rattle.sense_log.specs.Log.{bitMapLength, logOf}
+use Rattle.sense_log.specs.Log.{bitMapLength}
 use Rattle.sense_log.proofs.Bits.{stored, length-stored, bits-below, length-log}
 use Rattle.log_writer.proofs.Stored.{maps-more, length-more, log-stored}
 use Rattle.log_writer.proofs.store.store_log.Statement.{statement}
