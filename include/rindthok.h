@@ -1,4 +1,5 @@
-/* Rindthok: records of nine-track tape, logs of what was corrected in them, and numbers between head order and code order.
+/* Rindthok: records of nine-track tape, logs of what was corrected in them, and numbers between head order and code
+ * order.
  *
  * Each call returns 0 for a delivery, or the number of a refusal, and stores the refusal's place
  * through `place`, or 0. Any lengths and any values may be passed: bad input is refused.
@@ -13,22 +14,21 @@
  * map that is handed to a reader does not compile.
  *
  * The caller passes valid pointers, each of which holds for the length beside it; what is written through one,
- * outputs and single numbers alike, overlaps nothing else that is passed. A pointer may be NULL where the length beside
- * it is 0: as an input it has no bytes, words, characters or maps, which is a record of empty data to
- * rindthok_write6250, refused by 9 by rindthok_read_log and by 1 everywhere else, and as an output it has no space, which is refused by 2,
- * but for the maps of a log of no groups, which is refused by 9. A pointer with no length beside it (`groups`, `size`, `place` and the
- * like) is never NULL.
+ * outputs and single numbers alike, overlaps nothing else that is passed. A pointer may be NULL where the length
+ * beside it is 0: as an input it has no bytes, words, characters or maps, which is a record of empty data to
+ * rindthok_write6250, refused by 9 by rindthok_read_log and by 1 everywhere else, and as an output it has no space,
+ * which is refused by 2, but for the maps of a log of no groups, which is refused by 9. A pointer with no length
+ * beside it (`groups`, `size`, `place` and the like) is never NULL.
  *
  * Places. 3: the lowest group with a stray word or map, the lowest stray character, or the lowest stray word of nine,
  * from 0; for a map by itself 0. 4 and 5: the lowest group, from 0, that has one of the two. 1, 2 and 6 to 10: 0. A
  * backward reading is turned forward first, so its places count from the record's beginning.
  *
  * Stack, as measured on x86-64 from the call to the lowest byte touched: a read at 6250 takes 7,728 bytes forward and
- * 7,760 backward, its log 7,824 and 7,856, a log read back 72, a read at 800 at most 1,192, a write 136 at 6250 and 560 at 800, a call
- * between the orders 8. Where
- * the C library is bound lazily, the first call of its memcpy or memset runs the linker on the same stack, which takes some
- * thousands of bytes more; link with -z now, or statically. The calls allocate nothing and keep no state, so any
- * number of threads may make them.
+ * 7,760 backward, its log 7,824 and 7,856, a log read back 72, a read at 800 at most 1,192, a write 136 at 6250 and
+ * 560 at 800, a call between the orders 8. Where the C library is bound lazily, the first call of its memcpy or
+ * memset runs the linker on the same stack, which takes some thousands of bytes more; link with -z now, or
+ * statically. The calls allocate nothing and keep no state, so any number of threads may make them.
  *
  * The programs beside the library end with status 0, always, unless a signal ends them: a script tells a refusal by
  * the first word of the output, and a failure by standard error.
@@ -43,7 +43,7 @@
 extern "C" {
 #endif
 
-/* The refusals of document 01, "Where a call is turned down", and of document 02's requests: 9 and 10 of request 2.1. */
+/* The refusals of document 01, "Where a call is turned down", and of document 02: 9 and 10 by request 2.1. */
 enum rindthok_refusal {
     RINDTHOK_LENGTH = 1,          /* a length is outside the limits */
     RINDTHOK_SPACE = 2,           /* the output has too little space */
@@ -53,7 +53,7 @@ enum rindthok_refusal {
     RINDTHOK_PADDING = 6,         /* the padding is not as a writer leaves it */
     RINDTHOK_NO_RECORD = 7,       /* no written record fits */
     RINDTHOK_SEVERAL_RECORDS = 8, /* more than one written record fits */
-    RINDTHOK_LOG_LENGTH = 9,      /* a log has no 1 to 586 groups, or its length does not suit them and their bits */
+    RINDTHOK_LOG_LENGTH = 9,      /* a log is not one of 1 to 586 groups, or its length does not suit them */
     RINDTHOK_LOG_CONTENT = 10     /* a log has a spare bit, or a map of tracks that is 0 or above 511 */
 };
 
@@ -62,14 +62,14 @@ typedef struct rindthok_physical_map {
     uint16_t physical;
 } rindthok_physical_map;
 
-/* A map in code order, algebraic track i in bit i: the pointer maps that the readers take, and the changed tracks of a log. */
+/* A map in code order, algebraic track i in bit i: the pointers that the readers take, the changed tracks of a log. */
 typedef struct rindthok_algebraic_map {
     uint16_t algebraic;
 } rindthok_algebraic_map;
 
 /* An array of maps lies in memory as the numbers do. Older C compilers only warn where a pointer to another type, or a
- * number, is passed for a pointer, and take one map for the other; from here on they refuse it, as C++ and newer ones do.
- * An include between `diagnostic push` and `diagnostic pop` undoes this. */
+ * number, is passed for a pointer, and take one map for the other; from here on they refuse it, as C++ and newer ones
+ * do. An include between `diagnostic push` and `diagnostic pop` undoes this. */
 #if !defined(__cplusplus) && (defined(__clang__) || (defined(__GNUC__) && __GNUC__ >= 5))
 #pragma GCC diagnostic error "-Wincompatible-pointer-types"
 #pragma GCC diagnostic error "-Wint-conversion"
@@ -80,32 +80,33 @@ typedef struct rindthok_algebraic_map {
  * there are more than 4101 bytes, 2 if the space is under nine words a group; `groups` is then as it was. */
 uint16_t rindthok_write6250(const uint8_t *bytes, size_t byte_count, uint16_t *words, size_t word_space, size_t *groups, size_t *place);
 
-/* Reads a 6250 record: nine words a group in code order, tracks 0 to 8, and a pointer map a group in code order too. The
- * one written record that fits is delivered: its data at the front of `output`, their length in `size`, and in
- * `changes` how many words of the reading differ from it. Backward, groups and maps come last first and each
- * word's ten bits are reversed; the answer is that of the forward reading, places too.
- * Refusals, from top to bottom: 1 if there are not nine words and one map for each of 1 to 586 groups; 2 if the
- * output has under 7 bytes a group, less 1; 3 if a word is above 1023 or a map above 511; 4 if a group has
- * three or more tracks pointed, by its map or by an illegal word, 5 if no group of the code fits it, with the first such
- * group as place; 6 if
- * the padding is not as a writer leaves it. `size`, `changes` and `output` are then as they were. */
+/* Reads a 6250 record: nine words a group in code order, tracks 0 to 8, and a pointer map a group in code order too.
+ * The one written record that fits is delivered: its data at the front of `output`, their length in `size`, and in
+ * `changes` how many words of the reading differ from it. Backward, groups and maps come last first and each word's
+ * ten bits are reversed; the answer is that of the forward reading, places too. Refusals, from top to bottom: 1 if
+ * there are not nine words and one map for each of 1 to 586 groups; 2 if the output has under 7 bytes a group, less
+ * 1; 3 if a word is above 1023 or a map above 511; 4 if a group has three or more tracks pointed, by its map or by an
+ * illegal word, 5 if no group of the code fits it, with the first such group as place; 6 if the padding is not as a
+ * writer leaves it. `size`, `changes` and `output` are then as they were. */
 uint16_t rindthok_read6250_forward(const uint16_t *words, size_t word_count, const rindthok_algebraic_map *maps, size_t map_count, uint8_t *output, size_t output_space, size_t *size, size_t *changes, size_t *place);
 uint16_t rindthok_read6250_backward(const uint16_t *words, size_t word_count, const rindthok_algebraic_map *maps, size_t map_count, uint8_t *output, size_t output_space, size_t *size, size_t *changes, size_t *place);
 
-/* Writes the sense log of a 6250 reading, which is passed as to a reader; no data are written. A log is a bit map of the groups, in forward
- * order, group 0 in bit 0 of the first byte and spare bits zero; then, for each group whose bit stands, two bytes, the low one first, with
- * the map of the tracks whose words differ from the one written record that fits, track i in bit i. A bit stands if that map is not zero; a
- * track that is pointed and right is not in it. The log stands at the front of `log`, and its length in `length`.
- * Refusals, as a reader's with the same places, but for 2: if the space is under a byte for every eight groups, rounded up, and two bytes for
- * every group. `length` and `log` are then as they were. */
+/* Writes the sense log of a 6250 reading, which is passed as to a reader; no data are written. A log is a bit map of
+ * the groups, in forward order, group 0 in bit 0 of the first byte and spare bits zero; then, for each group whose
+ * bit stands, two bytes, the low one first, with the map of the tracks whose words differ from the one written record
+ * that fits, track i in bit i. A bit stands if that map is not zero; a track that is pointed and right is not in it.
+ * The log stands at the front of `log`, and its length in `length`.
+ * Refusals as a reader's, with the same places, but for 2: if the space is under a byte for every eight groups,
+ * rounded up, and two bytes for every group. `length` and `log` are then as they were. */
 uint16_t rindthok_log6250_forward(const uint16_t *words, size_t word_count, const rindthok_algebraic_map *maps, size_t map_count, uint8_t *log, size_t log_space, size_t *length, size_t *place);
 uint16_t rindthok_log6250_backward(const uint16_t *words, size_t word_count, const rindthok_algebraic_map *maps, size_t map_count, uint8_t *log, size_t log_space, size_t *length, size_t *place);
 
-/* Reads a log back with its group count: the map of the changed tracks of each group, in code order, at the front of `maps`. One set of
- * changes has one log: what is read back, written again, gives the log, and a reading's own log gives the reading's changes. Refusals, all
- * with place 0, from top to bottom: 2 if the space is under one map a group, whatever their number; 9 if there are not 1 to 586 groups, or the
- * length is not that of the bit map and two bytes for each of the groups' bits that stand; 10 if a spare bit stands, or a map of tracks is 0 or
- * above 511. `maps` is then as it was. */
+/* Reads a log back with its group count: the map of the changed tracks of each group, in code order, at the front of
+ * `maps`. One set of changes has one log: what is read back, written again, gives the log, and a reading's own log
+ * gives the reading's changes.
+ * Refusals, all with place 0, from top to bottom: 2 if the space is under one map a group, whatever their number; 9
+ * if there are not 1 to 586 groups, or the length is not that of the bit map and two bytes for each of the groups'
+ * bits that stand; 10 if a spare bit stands, or a map of tracks is 0 or above 511. `maps` is then as it was. */
 uint16_t rindthok_read_log(size_t groups, const uint8_t *log, size_t log_length, rindthok_algebraic_map *maps, size_t map_space, size_t *place);
 
 /* Writes an 800 record: 1 to 2048 bytes as characters of nine bits, then the check character and the

@@ -21,7 +21,7 @@ pub enum Reason {
     NoRecord,
     // More than one written record fits.
     SeveralRecords,
-    // A log has no 1 to 586 groups, or its length does not suit them and their bits (request 2.1).
+    // A log is not one of 1 to 586 groups, or its length does not suit them and their bits (request 2.1).
     LogLength,
     // A log has a spare bit, or a map of changed tracks that no reading has (request 2.1).
     LogContent,

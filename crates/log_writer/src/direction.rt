@@ -1,4 +1,5 @@
-// The two directions of writing a log: each names its table, once a record, and one function writes by it.
+// The two directions of writing a log, for callers in Rattle: each names its table, once a record, and one function writes by
+// it. The calls for C name the tables themselves (decision D12).
 use crate::writer::log_by;
 use answer::Written;
 use group_code::backward_readings;

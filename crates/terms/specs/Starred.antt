@@ -34,7 +34,7 @@ leaves (body6250 bytes) = body bytes
 leaves (unaltered800 bytes) = (checkCharacter (map characterOf bytes) ⊕ offset) ∷ []
 leaves (called call) = outputAfter (answerTo call (length lent)) (resultOf call) lent
 
--- a row: what is asked, and the answer and the output that document 01 prescribes
+-- a row: what is asked, and the answer and the output that the papers prescribe
 pub record Row : Type 0 where
   pub asked : Asked
   pub answer : Answer
