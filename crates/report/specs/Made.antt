@@ -45,10 +45,16 @@ abbrev pub behindHeading : ℕ → ℕ → Ended → Next
 behindHeading groups length (After count) = cond (ltb count length) Cut (Log (record { groups = groups; length = length }))
 behindHeading groups length (Broken number) = Failed number
 
--- What came next: a heading, with the log at the front of the space; nothing; bytes that are cut; or a read failed.
+-- What came behind a heading: the log that it tells of, at the front of the space; fewer bytes than it tells of; or a read failed.
+abbrev pub CameBehind : List ℕ → List ℕ → Next → Type 0
+CameBehind heading log (Log h) = (h .groups ≡ groupsAt heading) × (h .length ≡ lengthAt heading) × (h .length ≤ length log)
+CameBehind heading log Nothing = ⊥
+CameBehind heading log Cut = (part : List ℕ) × (length part < lengthAt heading)
+CameBehind heading log (Failed number) = Unit {0}
+
+-- What came next: a heading, and the log behind it; nothing; bytes that are cut; or a read failed.
 abbrev pub Came : List ℕ → Next → Type 0
-Came log (Log h) =
-    (heading : List ℕ) × (length heading ≡ headingLength) × (h .groups ≡ groupsAt heading) × (h .length ≡ lengthAt heading) × (h .length ≤ length log)
+Came log (Log h) = (heading : List ℕ) × (length heading ≡ headingLength) × CameBehind heading log (Log h)
 Came log Nothing = Unit {0}
 Came log Cut = (part : List ℕ) × (0 < length part) × (length part < headingLength + lengthAt part)
 Came log (Failed number) = Unit {0}
