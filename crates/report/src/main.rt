@@ -8,7 +8,6 @@ mod whole;
 
 use page::PAGE;
 use page::put;
-use part::Handed;
 use part::hand_part;
 use streams::Text;
 use whole::End;
@@ -29,7 +28,7 @@ fn too_many(page: &mut [u8; PAGE]) -> Text
     Text::Message(put(page, 0, b"cannot report more than 2251799813685248 logs\n"))
 }
 
-// Hands over the last of a report, and tells why it is not whole.
+// Hands over the last of a report, and tells why it is not whole, also where this last part could not be written.
 fn hand_over(page: &mut [u8; PAGE], report: Report)
     requires { ⌜ Reported (now page) report × (report .handed + report .held < 2 ^ 64) ⌝ }
 {
@@ -39,16 +38,14 @@ fn hand_over(page: &mut [u8; PAGE], report: Report)
             hand_part(page, report.held, report.handed, true);
         }
         End::Unread(number) => {
-            if let Handed::Whole(_) = hand_part(page, report.held, report.handed, true) {
-                let text = streams::unread(page, number);
-                streams::finish(text, page);
-            }
+            hand_part(page, report.held, report.handed, true);
+            let text = streams::unread(page, number);
+            streams::finish(text, page);
         }
         End::TooMany => {
-            if let Handed::Whole(_) = hand_part(page, report.held, report.handed, true) {
-                let text = too_many(page);
-                streams::finish(text, page);
-            }
+            hand_part(page, report.held, report.handed, true);
+            let text = too_many(page);
+            streams::finish(text, page);
         }
         End::Told => {}
     }

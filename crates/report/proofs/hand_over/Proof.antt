@@ -23,28 +23,19 @@ hand-part-requires-2 c κs =
     let start = at .before .before in
     (lines-due (now (start .args .page)) (start .args .report) (start .pre .0) (at .end .given .0 .0) (at .end .given .1), start .pre .1)
 
-enum-told-2 : tie.Need-enum-told-2
-enum-told-2 c = search needs
-
 unread-requires : tie.Need-unread-requires
 unread-requires c κs = search needs
 
 finish-requires : tie.Need-finish-requires
 finish-requires c κs = search needs
 
-enum-told-3 : tie.Need-enum-told-3
-enum-told-3 c = search needs
-
-enum-told-4 : tie.Need-enum-told-4
-enum-told-4 c = search needs
+enum-told-2 : tie.Need-enum-told-2
+enum-told-2 c = search needs
 
 hand-part-requires-3 : tie.Need-hand-part-requires-3
 hand-part-requires-3 c κs =
     let start = c .before .before .before in
-    (most-lines-due (now (start .args .page)) (start .args .report) (start .pre .0) (c .before .enum-told4 .given .1), start .pre .1)
-
-enum-told-5 : tie.Need-enum-told-5
-enum-told-5 c = search needs
+    (most-lines-due (now (start .args .page)) (start .args .report) (start .pre .0) (c .before .enum-told2 .given .1), start .pre .1)
 
 too-many-requires : tie.Need-too-many-requires
 too-many-requires c κs = search needs
@@ -52,11 +43,8 @@ too-many-requires c κs = search needs
 finish-requires-2 : tie.Need-finish-requires-2
 finish-requires-2 c κs = search needs
 
-enum-told-6 : tie.Need-enum-told-6
-enum-told-6 c = search needs
-
-enum-told-7 : tie.Need-enum-told-7
-enum-told-7 c = search needs
+enum-told-3 : tie.Need-enum-told-3
+enum-told-3 c = search needs
 
 returns : tie.Need-returns
 returns c = search needs
@@ -70,12 +58,6 @@ returns-3 c = search needs
 returns-4 : tie.Need-returns-4
 returns-4 c = search needs
 
-returns-5 : tie.Need-returns-5
-returns-5 c = search needs
-
-returns-6 : tie.Need-returns-6
-returns-6 c = search needs
-
 pub hand-over-spec : {M : Type 1} → statement M
 hand-over-spec =
     tie.close
@@ -84,20 +66,14 @@ hand-over-spec =
     hand-part-requires
     enum-known-end
     hand-part-requires-2
-    enum-told-2
     unread-requires
     finish-requires
-    enum-told-3
-    enum-told-4
+    enum-told-2
     hand-part-requires-3
-    enum-told-5
     too-many-requires
     finish-requires-2
-    enum-told-6
-    enum-told-7
+    enum-told-3
     returns
     returns-2
     returns-3
-    returns-4
-    returns-5
-    returns-6)
+    returns-4)
