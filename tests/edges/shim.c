@@ -1,5 +1,5 @@
-/* Stands in front of the C library's read, write and close, and fails as EDGES_SHIM says. Only the standard streams are
- * touched. */
+/* Stands in front of the C library's read, write and close, and fails as EDGES_SHIM says: in one way, or, where a read or a
+ * write breaks behind so many bytes, at the close too. Only the standard streams are touched. */
 #include <errno.h>
 #include <stdio.h>
 #include <stdlib.h>
@@ -21,7 +21,7 @@ static struct stream messages = {.broken = NULL};
 static int asked(const char *failure)
 {
     const char *words = getenv("EDGES_SHIM");
-    return words != NULL && strcmp(words, failure) == 0;
+    return words != NULL && strstr(words, failure) != NULL;
 }
 
 /* Whether a stream is to break, and behind how many bytes. */

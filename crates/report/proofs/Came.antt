@@ -13,9 +13,10 @@ use Rattle.sense_log.specs.Pair.{pairAt}
 use Rattle.streams.specs.Ended.{Filled, isWhole}
 use Rattle.transfer.specs.declared.Ended.{Ended}
 use Rattle.transfer.specs.declared.Ended.the-variants.{After, Failed as Broken}
-use Rattle.report.specs.Made.{noHeading, behindHeading, Came}
+use Rattle.report.specs.Made.{noHeading, behindHeading, CameBehind, Came}
 use Rattle.report.specs.Report.{headingLength, groupsAt, lengthAt}
-use Rattle.report.specs.declared.input.Next.the-variants.{Log, Nothing, Cut}
+use Rattle.report.specs.declared.input.Next.{Next}
+use Rattle.report.specs.declared.input.Next.the-variants.{Log, Nothing, Cut, Failed}
 
 -- what stands in front does not depend on what comes behind
 pub pair-in-front : (front behind : List ℕ) (at : ℕ) → at + 1 < length front → pairAt (front ++ behind) at ≡ pairAt front at
@@ -39,16 +40,22 @@ module _ (log heading : List ℕ) (whole : length heading ≡ headingLength) whe
           (take count heading, omega (arith, filled .1), omega (arith, filled .1))
   no-heading-came (Broken number) filled part = tt
 
-  -- a log that is cut, and one that is whole
-  module _ (groups size : ℕ) (tells-groups : groups ≡ groupsAt heading) (tells-size : size ≡ lengthAt heading) (space : size ≤ length log) where
-    pub log-came : (ended : Ended) (front : List ℕ) → Filled ended front → Came log (behindHeading groups size ended)
-    log-came (After count) front filled = by (ltb count size) refl
-      where
-        by : (b : Bool) → ltb count size ≡ b → Came log (cond b Cut (Log (record { groups = groups; length = size })))
-        by true e =
-            let part : List ℕ = take count front in
-            let long = length-append heading part in
-            let same = pair-in-front heading part 2 (omega arith) in
-            (heading ++ part, omega (arith, long), omega (arith, long, same, filled .1, ltb-true count size e))
-        by false e = (heading, whole, tells-groups, tells-size, space)
-    log-came (Broken number) front filled = tt
+  -- what came behind a whole heading
+  pub behind-came : (r : Next) → CameBehind heading log r → Came log r
+  behind-came (Log h) came = (heading, whole, came)
+  behind-came Nothing came = absurd came
+  behind-came Cut came =
+      let long = length-append heading (came .0) in
+      let same = pair-in-front heading (came .0) 2 (omega arith) in
+      (heading ++ came .0, omega (arith, long), omega (arith, long, same, came .1))
+  behind-came (Failed number) came = tt
+
+-- a log that is cut, and one that is whole
+module _ (log heading : List ℕ) (groups size : ℕ) (tells-groups : groups ≡ groupsAt heading) (tells-size : size ≡ lengthAt heading) (space : size ≤ length log) where
+  pub log-came : (ended : Ended) (front : List ℕ) → Filled ended front → CameBehind heading log (behindHeading groups size ended)
+  log-came (After count) front filled = by (ltb count size) refl
+    where
+      by : (b : Bool) → ltb count size ≡ b → CameBehind heading log (cond b Cut (Log (record { groups = groups; length = size })))
+      by true e = (take count front, omega (arith, filled .1, ltb-true count size e))
+      by false e = (tells-groups, tells-size, space)
+  log-came (Broken number) front filled = tt

@@ -3,3 +3,4 @@ pub mod Answered
 pub mod Short
 pub mod Steps
 pub mod State
+pub mod Due

@@ -2,7 +2,6 @@
 -- Assumes nothing.
 use Prim.Native.Nat.{ℕ, suc, _+_, _-_, _*_, _^_, _≤_, _<_}
 use mathlib.Core.Path.{_≡_, refl, sym, ap, subst, _∙_}
-use mathlib.Core.Bool.{Bool, true}
 use mathlib.Core.List.{List, [], _++_, append-assoc}
 use native.Mathlib.Nat.{add-assoc, zero-add}
 use native.Mathlib.Omega.{arith}
@@ -11,9 +10,6 @@ use lib.ListN.{length, drop, length-append}
 use lib.Seq.{drop-append-le, drop-length}
 use Rattle.page.specs.Page.{pageSize, Printed}
 use Rattle.page.proofs.Printed.{printed-none, printed-both}
-use Rattle.transfer.specs.declared.Ended.{Ended}
-use Rattle.streams.specs.Ended.{Passed, Left, isWhole, endedBehind}
-use Rattle.streams.specs.Message.{unwrittenText}
 use Rattle.report.specs.Made.{Lines, MarksPut, LastPut, OnPage, Begun, ReportedAs, Reported}
 use Rattle.report.specs.Report.{mostMarks, mostLine, countText, reportFrom, reportText}
 use Rattle.report.specs.declared.whole.End.{End}
@@ -52,12 +48,8 @@ state-none page = record {
 
 -- ---- a page is handed over
 
-pub whole-kept : (held earlier : ℕ) (page page' : List ℕ) (sent : Ended) → Passed held earlier page page' sent → isWhole sent held ≡ true → page' ≡ page
-whole-kept held earlier page page' sent passed e =
-    subst (λ (b : Bool). Left b (unwrittenText (endedBehind earlier sent) (earlier + held)) page page') e (passed .1)
-
-pub state-passed : (logs total handed held : ℕ) (page page' : List ℕ) → page' ≡ page → State logs total handed page held → State logs total (handed + held) page' 0
-state-passed logs total handed held page page' e s =
+pub state-passed : (logs total handed held : ℕ) (page page' : List ℕ) → State logs total handed page held → State logs total (handed + held) page' 0
+state-passed logs total handed held page page' s =
     let lines = s .begun .lines in
     let all = s .begun .text .all in
     let none : drop (handed + held) lines ≡ [] = ap (λ (n : ℕ). drop n lines) all ∙ drop-length lines in

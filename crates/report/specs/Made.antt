@@ -3,13 +3,16 @@
 -- Assumes nothing.
 use Prim.Native.Nat.{ℕ, suc, _+_, _≤_, _<_}
 use mathlib.Core.Path.{_≡_}
-use mathlib.Core.Bool.{cond}
+use mathlib.Core.Bool.{cond, false}
 use mathlib.Core.List.{List, [], _++_}
+use mathlib.Core.Logic.{_⊎_}
 use lib.Dec.{eqb, ltb}
 use lib.ListN.{length, drop}
 use Rattle.answer.specs.Answer.{delivered, refused}
 use Rattle.answer_text.specs.Refusal.{refusalText}
 use Rattle.page.specs.Page.{Printed}
+use Rattle.streams.specs.Ended.{isWhole, endedBehind}
+use Rattle.streams.specs.Message.{unwrittenText}
 use Rattle.transfer.specs.declared.Ended.{Ended}
 use Rattle.transfer.specs.declared.Ended.the-variants.{After, Failed as Broken}
 use Rattle.report.specs.Report.{headingLength, mostMarks, mostLine, answerOf, marksOf, countText, groupsAt, lengthAt, reportFrom, reportText}
@@ -17,6 +20,8 @@ use Rattle.report.specs.declared.input.Next.{Next}
 use Rattle.report.specs.declared.input.Next.the-variants.{Log, Nothing, Cut, Failed}
 use Rattle.report.specs.declared.line.Line.{Line}
 use Rattle.report.specs.declared.line.Line.the-variants.{Marks, Last, Unread}
+use Rattle.report.specs.declared.part.Handed.{Handed}
+use Rattle.report.specs.declared.part.Handed.the-variants.{Whole, Unwritten}
 use Rattle.report.specs.declared.whole.End.{End}
 use Rattle.report.specs.declared.whole.End.the-variants.{Made, Unread as Stopped, TooMany, Told}
 use Rattle.report.specs.declared.whole.Report.{Report}
@@ -40,10 +45,16 @@ abbrev pub behindHeading : ℕ → ℕ → Ended → Next
 behindHeading groups length (After count) = cond (ltb count length) Cut (Log (record { groups = groups; length = length }))
 behindHeading groups length (Broken number) = Failed number
 
--- What came next: a heading, with the log at the front of the space; nothing; bytes that are cut; or a read failed.
+-- What came behind a heading: the log that it tells of, at the front of the space; fewer bytes than it tells of; or a read failed.
+abbrev pub CameBehind : List ℕ → List ℕ → Next → Type 0
+CameBehind heading log (Log h) = (h .groups ≡ groupsAt heading) × (h .length ≡ lengthAt heading) × (h .length ≤ length log)
+CameBehind heading log Nothing = ⊥
+CameBehind heading log Cut = (part : List ℕ) × (length part < lengthAt heading)
+CameBehind heading log (Failed number) = Unit {0}
+
+-- What came next: a heading, and the log behind it; nothing; bytes that are cut; or a read failed.
 abbrev pub Came : List ℕ → Next → Type 0
-Came log (Log h) =
-    (heading : List ℕ) × (length heading ≡ headingLength) × (h .groups ≡ groupsAt heading) × (h .length ≡ lengthAt heading) × (h .length ≤ length log)
+Came log (Log h) = (heading : List ℕ) × (length heading ≡ headingLength) × CameBehind heading log (Log h)
 Came log Nothing = Unit {0}
 Came log Cut = (part : List ℕ) × (0 < length part) × (length part < headingLength + lengthAt part)
 Came log (Failed number) = Unit {0}
@@ -89,11 +100,24 @@ pub record Begun (logs total handed : ℕ) (page : List ℕ) (held : ℕ) : Type
   pub are : Lines logs 0 input lines total
   pub text : OnPage lines handed page held
 
+-- What may be handed over behind so many bytes: exactly the next of the lines of the first logs of an input, or the rest of its report.
+abbrev pub Due : ℕ → List ℕ → ℕ → Type 0
+Due handed page held = ((logs : ℕ) × (total : ℕ) × Begun logs total handed page held) ⊎ ((input : List ℕ) × OnPage (reportText input) handed page held)
+
+-- What comes of it: only what was taken to its last byte has gone out, and the page is left; otherwise the page has the message.
+abbrev pub handedOf : Ended → ℕ → ℕ → Handed
+handedOf sent held handed = cond (isWhole sent held) (Whole (handed + held)) Unwritten
+
+abbrev pub HandedOver : ℕ → ℕ → List ℕ → List ℕ → Handed → Type 0
+HandedOver held handed page page' (Whole gone) = (gone ≡ handed + held) × (page' ≡ page)
+HandedOver held handed page page' Unwritten =
+    (sent : Ended) × (isWhole sent held ≡ false) × (told : ℕ) × Printed (unwrittenText (endedBehind handed sent) (handed + held)) page 0 page' told
+
 abbrev pub ReportedAs : End → ℕ → ℕ → List ℕ → Type 0
 ReportedAs Made held handed page = (input : List ℕ) × OnPage (reportText input) handed page held
 ReportedAs (Stopped number) held handed page = (logs : ℕ) × (total : ℕ) × Begun logs total handed page held
 ReportedAs TooMany held handed page = (logs : ℕ) × (total : ℕ) × Begun logs total handed page held
-ReportedAs Told held handed page = Unit {0}
+ReportedAs Told held handed page = (before : List ℕ) × Due handed before held × HandedOver held handed before page Unwritten
 
 abbrev pub Reported : List ℕ → Report → Type 0
 Reported page r = ReportedAs (r .end) (r .held) (r .handed) page

@@ -3,7 +3,7 @@ use sense_log::pair_at;
 use streams::Ended;
 ghost use mathlib.Core.Path.{_≡_};
 ghost use lib.ListN.{length};
-ghost use Rattle.report.specs.Made.{noHeading, behindHeading, Came};
+ghost use Rattle.report.specs.Made.{noHeading, behindHeading, CameBehind, Came};
 ghost use Rattle.report.specs.Report.{headingLength, mostBytes};
 
 // The bytes in front of a log.
@@ -59,7 +59,7 @@ fn behind_heading(groups: usize, length: usize, ended: Ended) -> Next
 // Reads the log behind a heading to the front of the space.
 fn read_behind(heading: &[u8], log: &mut [u8]) -> Next
     requires { ⌜ (length (now heading) ≡ headingLength) × (length (now log) ≡ mostBytes) ⌝ }
-    ensures { λ r. ⌜ Came (now (log .exit)) r ⌝ }
+    ensures { λ r. ⌜ CameBehind (now (heading .entry)) (now (log .exit)) r ⌝ }
 {
     let groups = pair_at(heading, 0) as usize;
     let length = pair_at(heading, 2) as usize;

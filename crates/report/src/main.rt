@@ -3,16 +3,19 @@
 // or cut.
 mod input;
 mod line;
+mod part;
 mod whole;
 
 use page::PAGE;
 use page::put;
+use part::hand_part;
 use streams::Text;
 use whole::End;
 use whole::Report;
 use whole::make_report;
 ghost use Prim.Native.Nat.{_+_, _^_, _<_};
 ghost use Rattle.streams.specs.Ended.{Tells};
+ghost use Rattle.report.specs.Made.{Reported};
 ghost use Rattle.report.specs.Report.{tooManyText};
 
 // So many maps are lent, one for each group that a heading can tell of.
@@ -25,33 +28,24 @@ fn too_many(page: &mut [u8; PAGE]) -> Text
     Text::Message(put(page, 0, b"cannot report more than 2251799813685248 logs\n"))
 }
 
-// Hands over the lines of a report that was broken off, and tells whether they were taken.
-fn pass_lines(page: &mut [u8; PAGE], held: usize, handed: usize) -> bool
-    requires { ⌜ handed + held < 2 ^ 64 ⌝ }
-{
-    streams::is_whole(streams::pass_on(page, held, handed), held)
-}
-
-// Hands over the last of a report, and tells why it is not whole.
+// Hands over the last of a report, and tells why it is not whole, also where this last part could not be written.
 fn hand_over(page: &mut [u8; PAGE], report: Report)
-    requires { ⌜ report .handed + report .held < 2 ^ 64 ⌝ }
+    requires { ⌜ Reported (now page) report × (report .handed + report .held < 2 ^ 64) ⌝ }
 {
     let end = report.end;
     match end {
         End::Made => {
-            streams::finish_behind(page, report.held, report.handed);
+            hand_part(page, report.held, report.handed, true);
         }
         End::Unread(number) => {
-            if pass_lines(page, report.held, report.handed) {
-                let text = streams::unread(page, number);
-                streams::finish(text, page);
-            }
+            hand_part(page, report.held, report.handed, true);
+            let text = streams::unread(page, number);
+            streams::finish(text, page);
         }
         End::TooMany => {
-            if pass_lines(page, report.held, report.handed) {
-                let text = too_many(page);
-                streams::finish(text, page);
-            }
+            hand_part(page, report.held, report.handed, true);
+            let text = too_many(page);
+            streams::finish(text, page);
         }
         End::Told => {}
     }

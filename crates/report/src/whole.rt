@@ -1,6 +1,8 @@
 // The whole report, line by line. Its length has no bound, so a page that is nearly full is handed over.
 use crate::line::Line;
 use crate::line::put_next;
+use crate::part::Handed;
+use crate::part::hand_part;
 use page::PAGE;
 ghost use mathlib.Core.Path.{_≡_};
 ghost use Prim.Native.Nat.{_+_, _^_, _<_};
@@ -49,10 +51,10 @@ pub(crate) fn make_report(page: &mut [u8; PAGE], log: &mut [u8], maps: &mut [u16
     let mut k: u64 = 0;
     while k < MOST_LOGS {
         if held > NEARLY_FULL {
-            if !streams::is_whole(streams::pass_on(page, held, handed), held) {
+            let Handed::Whole(gone) = hand_part(page, held, handed, false) else {
                 return ended(End::Told, held, handed);
-            }
-            handed += held;
+            };
+            handed = gone;
             held = 0;
         }
         match put_next(page, held, total, log, maps) {

@@ -15,11 +15,9 @@ pub enum Written {
     OfHalf,
 }
 
-/// What standard error has to get: nothing, or one line with the number of an error, or one line that tells how much of
-/// the output a file took.
+/// A line that standard error has to get: with the number of an error, or with how much of the output a file took.
 #[derive(Clone, Copy)]
-pub enum Said {
-    Silence,
+pub enum Line {
     Unread(u32),
     Unwritten(u32),
     Cut,
@@ -38,27 +36,25 @@ impl Written {
     }
 }
 
-impl Said {
+impl Line {
     /// How the line begins, if so many bytes are there of those that were made.
     fn start(self, count: usize, made: usize) -> String {
         let unwritten = "cannot write standard output:";
         match self {
-            Said::Silence => String::new(),
-            Said::Unread(error) => format!("cannot read standard input: error {error}"),
-            Said::Unwritten(error) => format!("{unwritten} error {error}"),
-            Said::Cut => format!("{unwritten} cut behind {count} of {made} bytes"),
+            Line::Unread(error) => format!("cannot read standard input: error {error}"),
+            Line::Unwritten(error) => format!("{unwritten} error {error}"),
+            Line::Cut => format!("{unwritten} cut behind {count} of {made} bytes"),
         }
     }
 
     /// What follows the start may not go on with its number: error 2 is not error 21.
     fn holds(self, said: &str, start: &str) -> bool {
-        let line = said.strip_suffix('\n').filter(|line| !line.contains('\n'));
+        let line = said.strip_suffix('\n');
         let rest = line.and_then(|line| line.strip_prefix(start));
         let digit = |next: char| next.is_ascii_digit();
         match self {
-            Said::Silence => said.is_empty(),
-            Said::Unread(_) => rest.is_some_and(|rest| rest.is_empty() || rest.starts_with(", ")),
-            Said::Unwritten(_) | Said::Cut => rest.is_some_and(|rest| !rest.starts_with(digit)),
+            Line::Unread(_) => rest.is_some_and(|rest| rest.is_empty() || rest.starts_with(", ")),
+            Line::Unwritten(_) | Line::Cut => rest.is_some_and(|rest| !rest.starts_with(digit)),
         }
     }
 }
@@ -67,7 +63,7 @@ impl Said {
 pub fn differences(
     ran: &Ran,
     written: Written,
-    said: Said,
+    due: &[Line],
     invocation: &Invocation,
 ) -> Vec<String> {
     let good = &invocation.good;
@@ -82,9 +78,12 @@ pub fn differences(
         let wrote = format!("wrote {count} bytes, {same} of them as the {whole} of a good run");
         seen.push(format!("{wrote}, due: {written:?}"));
     }
-    let start = said.start(count, invocation.made_by(count));
-    if !said.holds(&ran.said, &start) {
-        seen.push(format!("said {:?}, due: {start:?}", ran.said));
+    let made = invocation.made_by(count);
+    let starts: Vec<_> = due.iter().map(|line| line.start(count, made)).collect();
+    let said: Vec<_> = ran.said.split_inclusive('\n').collect();
+    let mut lines = due.iter().zip(&said).zip(&starts);
+    if said.len() != due.len() || !lines.all(|((line, said), start)| line.holds(said, start)) {
+        seen.push(format!("said {:?}, due: {starts:?}", ran.said));
     }
     seen
 }

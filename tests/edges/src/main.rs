@@ -38,9 +38,9 @@ fn is_good(invocation: &Invocation) -> bool {
 }
 
 /// What was seen in one test and was not due.
-fn attempt(&(_, setting, written, said): &Case, invocation: &Invocation) -> Vec<String> {
+fn attempt(&(_, setting, written, due): &Case, invocation: &Invocation) -> Vec<String> {
     let ran = run::run(invocation.line, &invocation.input, setting);
-    let mut seen = expected::differences(&ran, written, said, invocation);
+    let mut seen = expected::differences(&ran, written, due, invocation);
     let calls = ran.pieces;
     if setting == [Packets] && calls > CALLS {
         seen.push(format!("made {calls} write calls, due: at most {CALLS}"));

@@ -46,7 +46,7 @@ returns c =
     let size = at .before .before .pair-at2 in
     let start = at .before .before .before .before .before .before in
     rw (c .behind-heading .ensures)
-    (log-came _ (now (start .args .heading)) (start .pre .0) (groups .result) (size .result) (groups .ensures) (size .ensures)
+    (log-came _ (now (start .args .heading)) (groups .result) (size .result) (groups .ensures) (size .ensures)
     (still-long (size .result) (now (start .args .log)) (at .read .last .0) (omega (arith, size .ok, start .pre .1)) (at .read .kept .0))
     (at .read .result) (at .read .last .0) (at .read .ensures))
 

@@ -3,7 +3,7 @@
 use mathlib.Core.Path.{sym, _∙_}
 use denote.Ref.{now}
 use borrow.Author.Needs.{needs}
-use Rattle.report.proofs.Came.{no-heading-came}
+use Rattle.report.proofs.Came.{no-heading-came, behind-came}
 use Rattle.report.proofs.input.read_next.Statement.{statement}
 use Rattle.report.proofs.input.read_next.Tie as tie
 
@@ -26,7 +26,10 @@ same-length : tie.Need-same-length
 same-length c = search needs
 
 returns : tie.Need-returns
-returns c = search needs
+returns c =
+    let behind = c .before .before in
+    let read = behind .before .before .before .before .before .before .read in
+    behind-came _ (read .last .0) (read .kept .0) (behind .read-behind .result) (behind .read-behind .ensures)
 
 no-heading-requires : tie.Need-no-heading-requires
 no-heading-requires c κs = search needs

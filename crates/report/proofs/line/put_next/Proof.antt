@@ -26,10 +26,10 @@ log-came c =
     subst (λ (n : Next). Came (at .read-next .last .0) n) (c .heading .given .1) (at .read-next .ensures)
 
 slice-reshare-prefix-put-log : tie.Need-slice-reshare-prefix-put-log
-slice-reshare-prefix-put-log c = log-came (c .before .before) .4
+slice-reshare-prefix-put-log c = log-came (c .before .before) .2 .2
 
 slice-aggregate-put-log : tie.Need-slice-aggregate-put-log
-slice-aggregate-put-log c = let came = c .before .before .before in sym (length-take-le _ _ (log-came came .4))
+slice-aggregate-put-log c = let came = c .before .before .before in sym (length-take-le _ _ (log-came came .2 .2))
 
 put-log-requires : tie.Need-put-log-requires
 put-log-requires c κs = search needs
@@ -63,8 +63,8 @@ returns c =
     let space = heading .before .before .before .before .read-next .last .0 in
     let start = heading .before .before .before .before .before .before .before .before in
     let log = take (heading .heading .given .0 .0 .length) space in
-    log-put (came .0) log (came .1) (length-take-le _ space (came .4) ∙ came .3) (start .args .total) (start .args .held) (now (start .args .page)) (put .put-log .last .0) (put .put-log .result)
-    (subst (λ (g : ℕ). LogPut g log (start .args .total) (now (start .args .page)) (start .args .held) (put .put-log .last .0) (put .put-log .result)) (came .2) (put .put-log .ensures))
+    log-put (came .0) log (came .1) (length-take-le _ space (came .2 .2) ∙ came .2 .1) (start .args .total) (start .args .held) (now (start .args .page)) (put .put-log .last .0) (put .put-log .result)
+    (subst (λ (g : ℕ). LogPut g log (start .args .total) (now (start .args .page)) (start .args .held) (put .put-log .last .0) (put .put-log .result)) (came .2 .0) (put .put-log .ensures))
 
 same-length-3 : tie.Need-same-length-3
 same-length-3 c = search needs

@@ -2,18 +2,18 @@
 -- Assumes nothing.
 use Prim.Native.Nat.{_-_, _^_, _≤_}
 use mathlib.Core.Path.{_≡_, refl, sym, subst, _∙_}
-use mathlib.Core.Logic.{⊎-elim}
+use mathlib.Core.Logic.{inl, ⊎-elim}
 use native.Mathlib.Omega.{arith}
 use denote.Ref.{now}
 use lib.ListN.{length}
 use borrow.Author.Needs.{needs}
-use borrow.Author.Tests.{not-false}
-use Rattle.report.specs.Made.{NextPut}
+use Rattle.report.specs.Made.{NextPut, HandedOver}
 use Rattle.report.specs.Report.{mapsLent, mostBytes}
 use Rattle.report.specs.declared.line.Line.{Line}
 use Rattle.report.specs.declared.line.Line.the-variants.{Marks, Last, Unread}
+use Rattle.report.specs.declared.part.Handed.{Handed}
 use Rattle.report.specs.declared.whole.End.the-variants.{Made, Unread as Stopped, TooMany, Told}
-use Rattle.report.proofs.State.{State, state-as, state-bound, state-none, whole-kept, state-passed, state-more, state-last, last-bound, reported}
+use Rattle.report.proofs.State.{State, state-as, state-bound, state-none, state-passed, state-more, state-last, last-bound, reported}
 use Rattle.report.proofs.whole.make_report.Statement.{statement}
 use Rattle.report.proofs.whole.make_report.Tie as tie
 
@@ -26,11 +26,16 @@ abbrev μ-loop : tie.MeasureT-loop
 loop-holds : tie.Need-loop-holds Inv-loop μ-loop
 loop-holds c = let start = c .before .before in (omega arith, start .pre .0, start .pre .1, state-none (now (start .args .page)))
 
-pass-on-requires : tie.Need-pass-on-requires Inv-loop μ-loop
-pass-on-requires c κs = let at = c .before .before .before in omega (arith, state-bound (at .loop .inv .3))
+hand-part-requires : tie.Need-hand-part-requires Inv-loop μ-loop
+hand-part-requires c κs =
+    let at = c .before .before .before .loop in
+    (inl (at .k, at .total, at .inv .3 .begun), omega (arith, state-bound (at .inv .3)))
 
-is-whole-requires : tie.Need-is-whole-requires Inv-loop μ-loop
-is-whole-requires c κs = search needs
+enum-known-gone : tie.Need-enum-known-gone Inv-loop μ-loop
+enum-known-gone c = search needs
+
+enum-told : tie.Need-enum-told Inv-loop μ-loop
+enum-told c = search needs
 
 ended-requires : tie.Need-ended-requires Inv-loop μ-loop
 ended-requires c κs = search needs
@@ -43,11 +48,11 @@ same-length-2 c = let at = c .before .before .before .before .before .before .be
 
 returns : tie.Need-returns Inv-loop μ-loop
 returns c =
-    let at = c .before .before .before .before .before .before .before in
-    reported _ (c .ended .result) Told (at .loop .held) (at .loop .handed) (c .ended .ensures) tt (omega (arith, state-bound (at .loop .inv .3)))
-
-add-handed : tie.Need-add-handed Inv-loop μ-loop
-add-handed c = let at = c .before .before .before .before .before .before in omega (arith, state-bound (at .loop .inv .3))
+    let told = c .before in
+    let done = told .before .before in
+    let l = done .before .before .before .before .loop in
+    let unwritten = subst (λ (r : Handed). HandedOver (l .held) (l .handed) (l .page) (done .hand-part .last .0) r) (told .enum-told .given .1) (done .hand-part .ensures) in
+    reported _ (c .ended .result) Told (l .held) (l .handed) (c .ended .ensures) (l .page, inl (l .k, l .total, l .inv .3 .begun), unwritten) (omega (arith, state-bound (l .inv .3)))
 
 -- there is room for a line
 room : (c : tie.Joined1 Inv-loop μ-loop)
@@ -56,8 +61,8 @@ room c =
     let l = c .before .before .loop in
     ⊎-elim
     (λ w.
-    let kept = whole-kept (l .held) (l .handed) (l .page) (w .2 .last .0) (w .2 .result) (w .2 .ensures) (sym (w .3 .ensures) ∙ not-false _ (w .4 .left)) in
-    (state-as (state-passed (l .k) (l .total) (l .handed) (l .held) (l .page) (w .2 .last .0) kept (l .inv .3)) (w .7) (w .5) (w .6), omega (arith, w .6)))
+    let all = subst (λ (r : Handed). HandedOver (l .held) (l .handed) (l .page) (w .2 .last .0) r) (w .4 .given .1) (w .2 .ensures) in
+    (state-as (state-passed (l .k) (l .total) (l .handed) (l .held) (l .page) (w .2 .last .0) (l .inv .3)) (w .8 ∙ all .0) (w .6) (w .7), omega (arith, w .7)))
     (λ w. (state-as (l .inv .3) (w .3) (w .1) (w .2), omega (arith, w .2, w .0 .left)))
     (c .if1 .came)
 
@@ -172,13 +177,13 @@ make-report-spec =
     Inv-loop
     μ-loop
     loop-holds
-    pass-on-requires
-    is-whole-requires
+    hand-part-requires
+    enum-known-gone
+    enum-told
     ended-requires
     same-length
     same-length-2
     returns
-    add-handed
     put-next-requires
     enum-known-standing
     enum-known-last
