@@ -77,6 +77,12 @@ log-long c = c .put-next .kept .1 .1 .1 .0 ∙ c .before .before .before .before
 maps-long : (c : tie.After-put-next Inv-loop μ-loop) → length (c .put-next .last .1 .1 .1 .1 .0) ≡ mapsLent
 maps-long c = c .put-next .kept .1 .1 .1 .1 .0 ∙ c .before .before .before .before .before .before .loop .inv .2
 
+log-kept : (c : tie.After-put-next Inv-loop μ-loop) → length (c .put-next .last .1 .1 .1 .0) ≡ length (now (c .before .before .before .before .before .before .before .before .before .args .log))
+log-kept c = log-long c ∙ sym (c .before .before .before .before .before .before .before .before .before .pre .0)
+
+maps-kept : (c : tie.After-put-next Inv-loop μ-loop) → length (c .put-next .last .1 .1 .1 .1 .0) ≡ length (now (c .before .before .before .before .before .before .before .before .before .args .maps))
+maps-kept c = maps-long c ∙ sym (c .before .before .before .before .before .before .before .before .before .pre .1)
+
 -- what was put
 put : (c : tie.After-put-next Inv-loop μ-loop) (line : Line) → c .put-next .result ≡ line
     → NextPut (c .before .before .before .before .before .before .loop .total) (c .before .before .before .before .if1 .page) (c .before .before .before .before .if1 .held) (c .put-next .last .0) line
@@ -94,12 +100,10 @@ ended-requires-2 : tie.Need-ended-requires-2 Inv-loop μ-loop
 ended-requires-2 c κs = search needs
 
 same-length-3 : tie.Need-same-length-3 Inv-loop μ-loop
-same-length-3 c =
-    let done = c .before .before .before .before .before .before .before .before in log-long done ∙ sym (done .before .before .before .before .before .before .before .before .before .pre .0)
+same-length-3 c = log-kept (c .before .before .before .before .before .before .before .before)
 
 same-length-4 : tie.Need-same-length-4 Inv-loop μ-loop
-same-length-4 c =
-    let done = c .before .before .before .before .before .before .before .before in maps-long done ∙ sym (done .before .before .before .before .before .before .before .before .before .pre .1)
+same-length-4 c = maps-kept (c .before .before .before .before .before .before .before .before)
 
 returns-2 : tie.Need-returns-2 Inv-loop μ-loop
 returns-2 c =
@@ -120,12 +124,10 @@ ended-requires-3 : tie.Need-ended-requires-3 Inv-loop μ-loop
 ended-requires-3 c κs = search needs
 
 same-length-5 : tie.Need-same-length-5 Inv-loop μ-loop
-same-length-5 c =
-    let done = c .before .before .before .before .before .before .before .before in log-long done ∙ sym (done .before .before .before .before .before .before .before .before .before .pre .0)
+same-length-5 c = log-kept (c .before .before .before .before .before .before .before .before)
 
 same-length-6 : tie.Need-same-length-6 Inv-loop μ-loop
-same-length-6 c =
-    let done = c .before .before .before .before .before .before .before .before in maps-long done ∙ sym (done .before .before .before .before .before .before .before .before .before .pre .1)
+same-length-6 c = maps-kept (c .before .before .before .before .before .before .before .before)
 
 returns-3 : tie.Need-returns-3 Inv-loop μ-loop
 returns-3 c =
