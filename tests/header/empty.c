@@ -40,7 +40,7 @@ static void write6250(uint16_t *words)
     stored("6250, no space", groups, 7);
     due("6250, no data", rindthok_write6250(NULL, 0, words, 9, &groups, &place), 0);
     stored("6250, no data", groups, 1);
-    stored("6250, no data, P", words[8], 825);
+    stored("6250, no data, P", words[8], 495);
 }
 
 static void reads6250(read6250 *read, const uint16_t *words)

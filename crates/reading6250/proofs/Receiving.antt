@@ -1,4 +1,4 @@
--- What a loop over nine words looks up and gathers: values packed, the last value, and the illegal words' bits.
+-- What a loop over nine words looks up and gathers: values packed, the last value with its complement, and the illegal words' bits.
 -- Assumes nothing.
 use mathlib.Core.Path.{_≡_, refl, sym, ap, ap₂, _∙_}
 use mathlib.Core.Bool.{Bool, true, false, cond}
@@ -14,8 +14,9 @@ use lib.Dec.{ltb}
 use lib.ListN.{length, getD}
 use lib.Pow.{pow-mono, shl-exact}
 use Rattle.indexed.specs.List.{tabulate}
-use Rattle.indexed.proofs.Tabulate.{length-tabulate, getD-tabulate, tabulate-same, tabulate-last}
+use Rattle.indexed.proofs.Tabulate.{length-tabulate, getD-tabulate, tabulate-same}
 use Rattle.register.specs.Bit.{ofBits}
+use Rattle.register.specs.Xor.{_⊕_}
 use Rattle.register.proofs.Ones.{tabulated-lt}
 use Rattle.group_code.specs.Word.{valueOf, illegality, forwardWord, readOf, readings}
 use Rattle.group_code.proofs.Words.{value-lt, illegality-lt, getD-readings, read-value, read-mark}
@@ -23,8 +24,9 @@ use Rattle.group6250.specs.Packed.{byteAt, valuesOf, placedAt}
 use Rattle.group6250.specs.declared.group.Group.{Group}
 use Rattle.record6250.specs.Group.{illegalMap}
 use Rattle.record6250.specs.Tape.{numbersAt, wordsFrom}
-use Rattle.record6250.specs.Track.{valueOn}
+use Rattle.record6250.specs.Track.{recorded, valueOn}
 use Rattle.record6250.proofs.Tape.{getD-numbersAt}
+use Rattle.record6250.proofs.Track.{recorded-all}
 use Rattle.reading6250.proofs.Packing.{packed, packed-lt, byte-packed, bits-more}
 
 -- the words from an index on, as they are in the forward picture
@@ -129,13 +131,14 @@ module _ (word : ℕ → ℕ) where
     word-is : (k : ℕ) → k < 9 → word k ≡ getD words k 0
     word-is k h = sym (getD-tabulate 9 word k 0 h) ∙ ap (λ (l : List ℕ). getD l k 0) are
 
-    pub all-values : (g : Group) → g .tracks ≡ packed 8 9 low → g .parity ≡ valueOf (word 8) → valuesOf g ≡ tabulate 9 (λ k. valueOn k (getD words k 0))
+    pub all-values : (g : Group) → g .tracks ≡ packed 8 9 low → g .parity ≡ valueOf (word 8) ⊕ 255
+        → valuesOf g ≡ tabulate 9 (λ k. valueOn k (getD words k 0))
     unfolding valuesOf valueOn
     all-values g tracks parity =
         ap₂ (λ (l : List ℕ) (p : ℕ). l ++ (p ∷ []))
         (tabulate-same 8 _ _ (λ j h. ap (byteAt j) (tracks ∙ nine-is-eight) ∙ byte-packed low 8 j (λ i b. low-lt i) h ∙ low-below j h)) parity
-        ∙ sym (tabulate-last 8 (λ k. valueOf (word k)))
-        ∙ tabulate-same 9 _ _ (λ k h. ap valueOf (word-is k h))
+        ∙ recorded-all (λ k. valueOf (word k))
+        ∙ tabulate-same 9 _ _ (λ k h. ap (λ (w : ℕ). recorded k (valueOf w)) (word-is k h))
 
     pub all-marks : ofBits (tabulate 9 mark) ≡ illegalMap words
     unfolding illegalMap mark

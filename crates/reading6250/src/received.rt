@@ -34,8 +34,8 @@ fn illegal_tracks(words: &[u16], at: usize, backward: bool, table: &[u16]) -> u1
     illegal
 }
 
-// Receives the nine words from an index on, each by one look-up. Illegal words are rare: all are looked
-// for at once.
+// Receives the nine words from an index on, each by one look-up. On tape track 8 has the complement of document 000's
+// (document 02, "2.2"). Illegal words are rare: all are looked for at once.
 pub(crate) fn receive(words: &[u16], at: usize, backward: bool, table: &[u16]) -> Received
     requires { ⌜ (at + numbersPerGroup ≤ length (now words)) × ((k : ℕ) → getD (now words) k 0 < 1024) × (now table ≡ readings backward) ⌝ }
     ensures values { λ r. ⌜ valuesOf (r .group) ≡ tabulate tracks (λ k. valueOn k (getD (wordsFrom backward (numbersAt (now (words .entry)) at)) k 0)) ⌝ }
@@ -53,7 +53,10 @@ pub(crate) fn receive(words: &[u16], at: usize, backward: bool, table: &[u16]) -
         seen = seen | read;
         k += 1;
     }
-    let group = Group { tracks, parity };
+    let group = Group {
+        tracks,
+        parity: parity ^ 255,
+    };
     if seen < 256 {
         return Received { group, illegal: 0 };
     }

@@ -1,35 +1,27 @@
--- Definitions that go by how a group lies on tape, by a track's own word or by the tracks relied on say what the words of document 01 say
--- with neither: changes counted over all words of the forward picture, stray bits in the words as they stand there, words by the group
--- code, groups turned, and pointed tracks. A request that changes one of these names changes its law here.
+-- Definitions that go by how a group lies on tape or by the tracks relied on say what the words of document 01 say with neither: changes
+-- counted over all words of the forward picture, stray bits in the words as they stand there, groups turned, and pointed tracks. A request
+-- that changes one of these names changes its law here. What track 8 records is not as before: it stands in OddParity.
 -- Assumes nothing.
 use mathlib.Core.Path.{_≡_, refl, sym, ap, ap₂, _∙_}
 use mathlib.Core.Bool.{Bool, true, false, _||_}
-use mathlib.Core.List.{List, _++_, map}
+use mathlib.Core.List.{List, _++_}
 use Prim.Native.Nat.{ℕ, _+_, _*_, _/_, _<_}
-use native.Mathlib.Omega.{arith}
 use lib.Dec.{eqb, ltb}
-use lib.ListN.{length, getD, drop, length-map}
-use lib.Seq.{ext-getD}
+use lib.ListN.{length, getD, drop}
 use Rattle.slices.specs.Turned.{turnedPlace}
 use Rattle.indexed.specs.Differ.{differences}
 use Rattle.indexed.specs.List.{blocks, firstBelow}
 use Rattle.indexed.proofs.Below.{first-below-same}
 use Rattle.indexed.proofs.Blocks.{getD-blocks}
-use Rattle.indexed.proofs.Tabulate.{length-tabulate, getD-tabulate}
-use Rattle.indexed.proofs.Map.{getD-map}
+use Rattle.indexed.proofs.Tabulate.{getD-tabulate}
 use Rattle.indexed.proofs.Total.{total-same, differences-same, differences-blocks}
-use Rattle.group_code.specs.Code.{wordOf}
 use Rattle.group_code.specs.Word.{forwardWord}
-use Rattle.rectangular.specs.Constants.{feedback}
-use Rattle.rectangular.specs.Group.{group}
-use Rattle.rectangular.proofs.Equations.{length-group}
 use Rattle.record6250.specs.Fits.{wordsChanged}
 use Rattle.record6250.specs.Group.{pointed, reliedOn, relied}
 use Rattle.record6250.specs.Picture.{groupLent, groupRead, turnedNumbers}
 use Rattle.record6250.specs.Read.{readNumbers, readGroup, readMap, strayAt, firstStray}
-use Rattle.record6250.specs.Record.{groupWords, writtenRecord}
+use Rattle.record6250.specs.Record.{writtenRecord}
 use Rattle.record6250.specs.Tape.{numbersAt, strayNumbers, wordsFrom, turnedGroup}
-use Rattle.record6250.specs.Track.{wordOn, wordsOf}
 use Rattle.record6250.proofs.Picture.{length-read}
 use Rattle.record6250.proofs.Tape.{getD-numbersAt, reversed-test}
 
@@ -78,15 +70,6 @@ module _ (backward : Bool) (words maps : List ℕ) where
 pub relied-pointed : (words : List ℕ) (pointers : ℕ) → relied words pointers ≡ pointed words pointers
 unfolding relied reliedOn pointed
 relied-pointed words pointers = refl
-
--- the words of a group are the words of its values, one by one
-pub words-as-coded : (info : List ℕ) → groupWords info ≡ map wordOf (group 8 feedback info)
-unfolding groupWords wordsOf wordOn
-words-as-coded info =
-    let values = group 8 feedback info in
-    ext-getD 0 _ _ (length-tabulate 9 _ ∙ sym (length-map values wordOf ∙ length-group 8 feedback info))
-    (λ k h. let b : k < 9 = omega (arith, length-tabulate 9 (λ k. wordOf (getD values k 0))) in
-    getD-tabulate 9 _ k 0 b ∙ sym (getD-map wordOf values k 0 0 (omega (arith, length-group 8 feedback info))))
 
 -- what is turned is the words of each group, read backward, last group first
 pub turned-as-read : (numbers : List ℕ)

@@ -6,6 +6,7 @@ pub mod Padding
 pub mod Bounded
 pub mod Relied
 pub mod FittingGroup
+pub mod OddParity
 pub mod Reading
 pub mod Cases
 pub mod Answer

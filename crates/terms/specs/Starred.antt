@@ -1,5 +1,5 @@
--- The bench readings that document 01 marks with a star, as one table, and logs beside it. Each call is lent an output of ten numbers, so that a row also says
--- what is kept: behind a result, and after a refusal all of it.
+-- The bench readings that document 01 marks with a star, as one table, and logs beside it; word 8 is document 02's ("2.2"), which adds the last
+-- 6250 reading. Each call is lent an output of ten numbers, so that a row also says what is kept: behind a result, and after a refusal all of it.
 -- Assumes nothing.
 use Prim.Native.Nat.{ℕ}
 use mathlib.Core.Bool.{true, false}
@@ -52,8 +52,8 @@ made asked output = record { asked = asked; answer = delivered []; output = outp
 unfoldable pub written : List Row
 written =
     made (body6250 []) (0 ∷ 0 ∷ 0 ∷ 0 ∷ 0 ∷ 0 ∷ 6 ∷ [])
-    ∷ row (write bpi6250 []) (delivered (1 ∷ [])) (825 ∷ 818 ∷ 819 ∷ 827 ∷ 825 ∷ 825 ∷ 825 ∷ 825 ∷ 825 ∷ [])
-    ∷ row (write bpi6250 (0x01 ∷ [])) (delivered (1 ∷ [])) (850 ∷ 827 ∷ 818 ∷ 827 ∷ 825 ∷ 825 ∷ 825 ∷ 827 ∷ 859 ∷ [])
+    ∷ row (write bpi6250 []) (delivered (1 ∷ [])) (825 ∷ 818 ∷ 819 ∷ 827 ∷ 825 ∷ 825 ∷ 825 ∷ 825 ∷ 495 ∷ [])
+    ∷ row (write bpi6250 (0x01 ∷ [])) (delivered (1 ∷ [])) (850 ∷ 827 ∷ 818 ∷ 827 ∷ 825 ∷ 825 ∷ 825 ∷ 827 ∷ 750 ∷ [])
     ∷ row (write bpi800 (131 ∷ 212 ∷ 148 ∷ 248 ∷ 234 ∷ [])) (delivered (7 ∷ [])) (131 ∷ 468 ∷ 148 ∷ 248 ∷ 234 ∷ 510 ∷ 47 ∷ [])
     ∷ made (unaltered800 (131 ∷ 212 ∷ 148 ∷ 248 ∷ 234 ∷ [])) (41 ∷ [])
     ∷ []
@@ -73,14 +73,15 @@ characters800 characters answer front = record { reading = at800 false character
 
 unfoldable pub readings : List Read
 readings =
-    group6250 (825 ∷ 827 ∷ 818 ∷ 827 ∷ 825 ∷ 825 ∷ 825 ∷ 827 ∷ 859 ∷ []) 0 (delivered (1 ∷ 1 ∷ [])) (0x01 ∷ [])
+    group6250 (825 ∷ 827 ∷ 818 ∷ 827 ∷ 825 ∷ 825 ∷ 825 ∷ 827 ∷ 750 ∷ []) 0 (delivered (1 ∷ 1 ∷ [])) (0x01 ∷ [])
     ∷ group6250 (825 ∷ 827 ∷ 818 ∷ 827 ∷ 825 ∷ 825 ∷ 825 ∷ 827 ∷ 825 ∷ []) 0 (refused 5 0) []
     ∷ group6250 (825 ∷ 827 ∷ 818 ∷ 827 ∷ 825 ∷ 825 ∷ 825 ∷ 827 ∷ 825 ∷ []) 257 (delivered (1 ∷ 2 ∷ [])) (0x01 ∷ [])
-    ∷ group6250 (0 ∷ 827 ∷ 818 ∷ 827 ∷ 825 ∷ 825 ∷ 825 ∷ 827 ∷ 859 ∷ []) 0 (delivered (1 ∷ 1 ∷ [])) (0x01 ∷ [])
-    ∷ group6250 (0 ∷ 0 ∷ 0 ∷ 827 ∷ 825 ∷ 825 ∷ 825 ∷ 827 ∷ 859 ∷ []) 0 (refused 4 0) []
-    ∷ group6250 (850 ∷ 827 ∷ 818 ∷ 827 ∷ 825 ∷ 825 ∷ 825 ∷ 827 ∷ 859 ∷ []) 8 (delivered (1 ∷ 0 ∷ [])) (0x01 ∷ [])
-    ∷ group6250 (825 ∷ 827 ∷ 818 ∷ 827 ∷ 825 ∷ 825 ∷ 825 ∷ 827 ∷ 859 ∷ []) 8 (refused 5 0) []
-    ∷ group6250 (818 ∷ 819 ∷ 819 ∷ 827 ∷ 825 ∷ 825 ∷ 825 ∷ 825 ∷ 819 ∷ []) 0 (refused 6 0) []
+    ∷ group6250 (0 ∷ 827 ∷ 818 ∷ 827 ∷ 825 ∷ 825 ∷ 825 ∷ 827 ∷ 750 ∷ []) 0 (delivered (1 ∷ 1 ∷ [])) (0x01 ∷ [])
+    ∷ group6250 (0 ∷ 0 ∷ 0 ∷ 827 ∷ 825 ∷ 825 ∷ 825 ∷ 827 ∷ 750 ∷ []) 0 (refused 4 0) []
+    ∷ group6250 (850 ∷ 827 ∷ 818 ∷ 827 ∷ 825 ∷ 825 ∷ 825 ∷ 827 ∷ 750 ∷ []) 8 (delivered (1 ∷ 0 ∷ [])) (0x01 ∷ [])
+    ∷ group6250 (825 ∷ 827 ∷ 818 ∷ 827 ∷ 825 ∷ 825 ∷ 825 ∷ 827 ∷ 750 ∷ []) 8 (refused 5 0) []
+    ∷ group6250 (818 ∷ 819 ∷ 819 ∷ 827 ∷ 825 ∷ 825 ∷ 825 ∷ 825 ∷ 510 ∷ []) 0 (refused 6 0) []
+    ∷ group6250 (825 ∷ 818 ∷ 819 ∷ 827 ∷ 825 ∷ 825 ∷ 825 ∷ 825 ∷ 825 ∷ []) 0 (delivered (0 ∷ 1 ∷ [])) []
     ∷ characters800 (131 ∷ 468 ∷ 148 ∷ 248 ∷ 202 ∷ 510 ∷ 47 ∷ []) (delivered (5 ∷ 5 ∷ 1 ∷ [])) (131 ∷ 212 ∷ 148 ∷ 248 ∷ 234 ∷ [])
     ∷ characters800 (131 ∷ 468 ∷ 148 ∷ 248 ∷ 234 ∷ 510 ∷ 46 ∷ []) (delivered (5 ∷ 0 ∷ 1 ∷ [])) (131 ∷ 212 ∷ 148 ∷ 248 ∷ 234 ∷ [])
     ∷ characters800 (128 ∷ 468 ∷ 148 ∷ 248 ∷ 234 ∷ 510 ∷ 47 ∷ []) (refused 7 0) []
@@ -101,11 +102,12 @@ logRows words pointers answer front =
 
 unfoldable pub logs : List Row
 logs =
-    logRows (825 ∷ 827 ∷ 818 ∷ 827 ∷ 825 ∷ 825 ∷ 825 ∷ 827 ∷ 859 ∷ []) 0 (delivered (3 ∷ [])) (1 ∷ 1 ∷ 0 ∷ [])
+    logRows (825 ∷ 827 ∷ 818 ∷ 827 ∷ 825 ∷ 825 ∷ 825 ∷ 827 ∷ 750 ∷ []) 0 (delivered (3 ∷ [])) (1 ∷ 1 ∷ 0 ∷ [])
     ++ logRows (825 ∷ 827 ∷ 818 ∷ 827 ∷ 825 ∷ 825 ∷ 825 ∷ 827 ∷ 825 ∷ []) 257 (delivered (3 ∷ [])) (1 ∷ 1 ∷ 1 ∷ [])
-    ++ logRows (850 ∷ 827 ∷ 818 ∷ 827 ∷ 825 ∷ 825 ∷ 825 ∷ 827 ∷ 859 ∷ []) 8 (delivered (1 ∷ [])) (0 ∷ [])
+    ++ logRows (850 ∷ 827 ∷ 818 ∷ 827 ∷ 825 ∷ 825 ∷ 825 ∷ 827 ∷ 750 ∷ []) 8 (delivered (1 ∷ [])) (0 ∷ [])
     ++ logRows (825 ∷ 827 ∷ 818 ∷ 827 ∷ 825 ∷ 825 ∷ 825 ∷ 827 ∷ 825 ∷ []) 0 (refused 5 0) []
-    ++ logRows (818 ∷ 819 ∷ 819 ∷ 827 ∷ 825 ∷ 825 ∷ 825 ∷ 825 ∷ 819 ∷ []) 0 (refused 6 0) []
+    ++ logRows (818 ∷ 819 ∷ 819 ∷ 827 ∷ 825 ∷ 825 ∷ 825 ∷ 825 ∷ 510 ∷ []) 0 (refused 6 0) []
+    ++ logRows (825 ∷ 818 ∷ 819 ∷ 827 ∷ 825 ∷ 825 ∷ 825 ∷ 825 ∷ 825 ∷ []) 0 (delivered (3 ∷ [])) (1 ∷ 0 ∷ 1 ∷ [])
     ++ row (readLog 1 (1 ∷ 1 ∷ 1 ∷ [])) (delivered []) (257 ∷ [])
     ∷ row (readLog 9 (128 ∷ 1 ∷ 1 ∷ 0 ∷ 255 ∷ 1 ∷ [])) (delivered []) (0 ∷ 0 ∷ 0 ∷ 0 ∷ 0 ∷ 0 ∷ 0 ∷ 1 ∷ 511 ∷ [])
     ∷ row (readLog 8 (0 ∷ [])) (delivered []) (0 ∷ 0 ∷ 0 ∷ 0 ∷ 0 ∷ 0 ∷ 0 ∷ 0 ∷ [])

@@ -11,14 +11,18 @@ ghost use Rattle.group6250.specs.Packed.{valuesOf};
 ghost use Rattle.record6250.specs.Tape.{numbersFrom};
 ghost use Rattle.record6250.specs.Track.{wordsOf};
 
-// Stores a group's nine words at the front.
+// Stores a group's nine words at the front. On tape track 8 has the complement of document 000's (document 02, "2.2").
 pub(crate) fn store(words: &mut [u16], group: Group)
     requires { ⌜ numbersPerGroup ≤ length (now words) ⌝ }
     ensures { λ _. ⌜ now (words .exit) ≡ numbersFrom (wordsOf (valuesOf group)) ++ drop numbersPerGroup (now (words .entry)) ⌝ }
 {
+    let recorded = Group {
+        tracks: group.tracks,
+        parity: group.parity ^ 255,
+    };
     let mut j = 0;
     while j < Code6250::NUMBERS {
-        words[j] = word(group.value(j));
+        words[j] = word(recorded.value(j));
         j += 1;
     }
 }

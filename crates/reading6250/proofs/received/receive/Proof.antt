@@ -1,13 +1,14 @@
 -- `reading6250::received::receive` meets its contract. The loop's invariant: the first `k` words are gathered, and none of them is
 -- illegal if their readings together are below 256.
 -- Assumes nothing.
-use mathlib.Core.Path.{_≡_, refl, sym, _∙_}
+use mathlib.Core.Path.{_≡_, refl, sym, ap, _∙_}
 use Prim.Native.Nat.{ℕ, _+_, _-_, _<_, _≤_}
 use native.Mathlib.Omega.{arith}
 use borrow.Author.Needs.{needs}
 use denote.Ref.{now}
 use Rattle.indexed.specs.List.{tabulate, tabulateFrom}
 use Rattle.register.specs.Bit.{ofBits}
+use Rattle.register.specs.Xor.{_⊕_}
 use Rattle.group_code.specs.Word.{valueOf}
 use Rattle.reading6250.proofs.Packing.{packed}
 use Rattle.reading6250.proofs.Receiving.{wordAt, words-at, in-table, value-there, mark-there, low, mark, packed-fits, more-packed, more-seen, all-values, all-marks}
@@ -76,7 +77,7 @@ returns c =
     let all : at .k ≡ 9 = omega arith in
     let args = c .before .before .before .before .before .args in
     let are = words-at (args .backward) (now (args .words)) (args .at) in
-    (all-values _ _ are _ (rw all at (at .inv .1)) (at .inv .2 8 (omega arith)), sym (rw all at (at .inv .3 (c .if1 .taken))) ∙ all-marks _ _ are)
+    (all-values _ _ are _ (rw all at (at .inv .1)) (ap (λ (p : ℕ). p ⊕ 255) (at .inv .2 8 (omega arith))), sym (rw all at (at .inv .3 (c .if1 .taken))) ∙ all-marks _ _ are)
 
 illegal-tracks-requires : tie.Need-illegal-tracks-requires Inv-loop μ-loop
 illegal-tracks-requires c κs = c .before .before .before .before .before .pre
@@ -86,7 +87,7 @@ returns-2 c =
     let at = c .before .before .before .loop in
     let all : at .k ≡ 9 = omega arith in
     let args = c .before .before .before .before .before .before .args in
-    (all-values _ _ (words-at (args .backward) (now (args .words)) (args .at)) _ (rw all at (at .inv .1)) (at .inv .2 8 (omega arith)), c .illegal-tracks .ensures)
+    (all-values _ _ (words-at (args .backward) (now (args .words)) (args .at)) _ (rw all at (at .inv .1)) (ap (λ (p : ℕ). p ⊕ 255) (at .inv .2 8 (omega arith))), c .illegal-tracks .ensures)
 
 pub receive-spec : {M : Type 1} → statement M
 receive-spec =
