@@ -1,5 +1,5 @@
-//! Records at 6250 written for speed in Rust: every rule of document 01, tables made at compile time, the
-//! direction a constant of the compiled function. It shares no table and no code with the library.
+//! Records at 6250 written for speed in Rust: every rule of document 01, track 8 as document 02 has it, tables made at
+//! compile time, the direction a constant of the compiled function. It shares no table and no code with the library.
 
 use crate::Answer;
 
@@ -162,7 +162,7 @@ fn store(info: &[u8; 7], words: &mut [u16; 9]) {
     for j in 0..8 {
         words[j] = WORDS[(tracks >> (8 * j)) as u8 as usize];
     }
-    words[8] = WORDS[parity as u8 as usize];
+    words[8] = WORDS[!parity as u8 as usize];
 }
 
 pub fn write(bytes: &[u8], words: &mut [u16]) -> Answer {
@@ -249,7 +249,7 @@ fn read_groups<const BACKWARD: bool>(words: &[u16], maps: &[u16], body: &mut [u8
             illegal |= value;
         }
         let value = VALUES[direction][from[8] as usize & 1023];
-        let s1 = (parity ^ value) as u8;
+        let s1 = !(parity ^ value) as u8;
         let s2 = sum as u8 ^ REDUCTIONS[(sum >> 8) as usize & 127];
         illegal = (illegal | value) >> 8;
         if illegal | u16::from(s1 | s2) | maps[place] != 0 {

@@ -15,7 +15,7 @@ fn judged(words: &[u16; 9], map: u16, direction: usize) -> Result<([(usize, u8);
         illegal |= value;
     }
     let value = VALUES[direction][words[8] as usize & 1023];
-    let s1 = (parity ^ value) as u8;
+    let s1 = !(parity ^ value) as u8;
     let s2 = sum as u8 ^ REDUCTIONS[(sum >> 8) as usize & 127];
     illegal = (illegal | value) >> 8;
     if illegal | u16::from(s1 | s2) | map == 0 {

@@ -1,6 +1,8 @@
-//! The bench readings of document 01 that are not in the proved table, and what its section on reading backward
-//! says of a stray word. The answers stand here as the document has them.
+//! The bench readings of document 01 that are not in the proved table, what its section on reading backward says of a
+//! stray word, and what becomes of records with the parity that they had before request 2.2 of document 02. The answers
+//! stand here as the documents have them.
 
+use crate::damage6250::make_even;
 use crate::library::{self, Answer, Direction};
 use crate::reading6250::turned;
 use crate::record6250::written;
@@ -9,7 +11,7 @@ use crate::vectors::{LENT, LENT_BYTE};
 use crate::Tried;
 
 /// The words of data 0x01.
-const ONE: [u16; 9] = [850, 827, 818, 827, 825, 825, 825, 827, 859];
+const ONE: [u16; 9] = [850, 827, 818, 827, 825, 825, 825, 827, 750];
 
 /// Whether groups without pointers are answered so in both directions, with these data in front of the output.
 fn reads(words: &[u16], want: Answer, data: &[u8]) -> bool {
@@ -44,6 +46,14 @@ fn written_whole(length: usize) -> bool {
 fn refused_whole(length: usize) -> bool {
     let mut words = vec![LENT; 9 * 587];
     library::write6250(&vec![0; length], &mut words) == Answer::Refused(1, 0) && words.iter().all(|&word| word == LENT)
+}
+
+/// A record of even parity in track 8: one word of each group differs.
+fn even_record(length: usize) -> bool {
+    let data: Vec<u8> = (0..length).map(|k| (k % 251) as u8).collect();
+    let mut words = written(&data);
+    make_even(&mut words);
+    reads(&words, Answer::Delivered(vec![length as u64, words.len() as u64 / 9]), &data)
 }
 
 /// Whether characters are answered so in both directions, with these data in front of the output.
@@ -99,5 +109,8 @@ pub fn readings6250() -> Tried {
     tried.expect("a stray word keeps its forward place", reads(&stray_last, Answer::Refused(3, 2), &[]));
     tried.expect("4,101 bytes are written", written_whole(4101));
     tried.expect("4,102 bytes are refused", refused_whole(4102));
+    for length in [0, 1, 6, 7, 4101] {
+        tried.expect("even parity in track 8: one changed in each group", even_record(length));
+    }
     tried
 }

@@ -130,6 +130,14 @@ fn damage_record(seeded: &mut Seeded, reading: &mut Reading) {
     }
 }
 
+/// Gives track 8 even parity in every group, as a record had it before request 2.2.
+pub fn make_even(words: &mut [u16]) {
+    for group in words.chunks_mut(9) {
+        let byte = byte_of(group[8]).expect("a written word is legal");
+        group[8] = word(!byte);
+    }
+}
+
 /// A word or a map beyond its width, by one or by anything.
 fn stray(seeded: &mut Seeded, reading: &mut Reading) {
     let place = seeded.index(reading.maps.len());
@@ -169,6 +177,9 @@ pub fn random_reading(seeded: &mut Seeded, data: &[u8]) -> Reading {
     }
     let groups = body.len() / 7;
     let mut reading = Reading { words: words_of_body(&body), maps: vec![0; groups] };
+    if seeded.once_in(16) {
+        make_even(&mut reading.words);
+    }
     for _ in 0..[0, 1, 1, 1, 2, 3][seeded.index(6)] {
         let place = seeded.index(groups);
         damage_group(seeded, &mut reading.words[9 * place..9 * place + 9], &mut reading.maps[place]);

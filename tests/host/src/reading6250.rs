@@ -10,7 +10,7 @@ pub fn byte_of(word: u16) -> Option<u8> {
     Some((half(word >> 5)? << 4 | half(word & 31)?) as u8)
 }
 
-/// The information bytes in nine track values, B7 first.
+/// The information bytes in what nine tracks record, B7 first.
 pub fn information(tracks: &[u8; 9]) -> [u8; 7] {
     let mut info = [0u8; 7];
     for i in 1..8 {
@@ -21,14 +21,15 @@ pub fn information(tracks: &[u8; 9]) -> [u8; 7] {
     info
 }
 
-fn parity_of(tracks: &[u8; 9]) -> u8 {
-    tracks.iter().fold(0, |sum, track| sum ^ track)
+/// The characters of even parity, bit i for that of bits i.
+fn even_characters(tracks: &[u8; 9]) -> u8 {
+    tracks.iter().fold(255, |even, track| even ^ track)
 }
 
-/// Whether nine track values are a group of the code: what is written from their own information bytes.
-/// Every written group has even parity, so that a candidate without it need not be written.
+/// Whether nine tracks record a group of the code: what is written from their own information bytes.
+/// Every character of a written group has odd parity, so that a candidate without it need not be written.
 fn is_group(tracks: &[u8; 9]) -> bool {
-    parity_of(tracks) == 0 && group(&information(tracks)) == *tracks
+    even_characters(tracks) == 0 && group(&information(tracks)) == *tracks
 }
 
 fn replaced(read: &[u8; 9], track: usize, value: u8) -> [u8; 9] {
@@ -56,12 +57,12 @@ fn pointed_once(read: &[u8; 9], track: usize) -> Vec<[u8; 9]> {
     (0..=255).map(|value| replaced(read, track, value)).filter(is_group).collect()
 }
 
-/// The groups of the code that differ in the two pointed tracks only. Of the 65,536 pairs, 256 have even
-/// parity: one value of the second track for each of the first.
+/// The groups of the code that differ in the two pointed tracks only. Of the 65,536 pairs, 256 leave every character of
+/// odd parity: one value of the second track for each of the first.
 fn pointed_twice(read: &[u8; 9], first: usize, second: usize) -> Vec<[u8; 9]> {
     (0..=255)
         .map(|value| replaced(&replaced(read, first, value), second, 0))
-        .map(|open| replaced(&open, second, parity_of(&open)))
+        .map(|open| replaced(&open, second, even_characters(&open)))
         .filter(is_group)
         .collect()
 }

@@ -16,7 +16,8 @@ fn times_t(byte: u8) -> u8 {
     product
 }
 
-/// The nine track values of the group of seven information bytes, B7 first.
+/// What the nine tracks record of the group of seven information bytes, B7 first. Track 8 makes the number of ones in
+/// each character odd (document 02, request 2.2).
 pub fn group(info: &[u8]) -> [u8; 9] {
     let mut b = [0u8; 8];
     for i in 1..8 {
@@ -30,16 +31,16 @@ pub fn group(info: &[u8]) -> [u8; 9] {
         b[0] ^= term;
     }
     let mut tracks = [0u8; 9];
-    for j in 0..8 {
-        for (i, character) in b.iter().enumerate() {
+    for (i, character) in b.iter().enumerate() {
+        for j in 0..8 {
             tracks[j] |= (character >> j & 1) << i;
         }
-        tracks[8] ^= tracks[j];
+        tracks[8] |= u8::from(character.count_ones() % 2 == 0) << i;
     }
     tracks
 }
 
-/// The word that records a track value.
+/// The word of a byte on a track.
 pub fn word(byte: u8) -> u16 {
     CODES[usize::from(byte >> 4)] << 5 | CODES[usize::from(byte & 15)]
 }

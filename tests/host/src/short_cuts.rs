@@ -1,5 +1,5 @@
-//! The readers of these tests take short cuts: at 6250 a candidate is passed over if its parity is odd, and a group of
-//! the code is taken for its own only fit; at 800 the wrong characters are those of wrong parity. Here both are held, on
+//! The readers of these tests take short cuts: at 6250 a candidate is passed over if a character has even parity, and a
+//! group of the code is taken for its own only fit; at 800 the wrong characters are those of wrong parity. Here both are held, on
 //! seeded readings, to enumerations with no short cut: every candidate that the third term speaks of is written.
 
 use crate::damage6250::damage_group;
