@@ -1,4 +1,5 @@
--- The written 6250 record (document 01, "The 6250 record"; "written record" is that paper's term).
+-- The written 6250 record (document 01, "The 6250 record"; "written record" is that paper's term): document 000's groups as the tracks
+-- record them, track 8 complemented (document 02, "2.2").
 -- Assumes nothing.
 use Prim.Native.Nat.{ℕ, _+_, _-_, _*_, _/_, _%_}
 use mathlib.Core.List.{List, [], _∷_, _++_}

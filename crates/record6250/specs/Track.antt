@@ -12,8 +12,9 @@ use Rattle.group_code.specs.Code.{wordOf}
 use Rattle.group_code.specs.Word.{valueOf}
 use Rattle.rectangular.specs.Constants.{tracks}
 
--- The byte that stands on a track for its value. "Track 8 becomes the complement of the exclusive-or of Z0 to Z7, in writing and reading": of
--- the value that track 8 has in document 000's group. The complement of the complement is the value, so this is the way back too.
+-- The byte that a track records for its value in document 000's group. There track 8 is the exclusive-or of Z0 to Z7; "track 8 becomes the
+-- complement of the exclusive-or of Z0 to Z7, in writing and reading". The complement of the complement is the value, so this is the way
+-- back too.
 unfoldable pub recorded : ℕ → ℕ → ℕ
 recorded track value = cond (eqb track 8) (value ⊕ 255) value
 
