@@ -76,7 +76,8 @@ typedef struct rindthok_algebraic_map {
 #endif
 
 /* Writes a 6250 record: 0 to 4101 bytes as groups of nine words in code order, tracks 0 to 8 of each, at the front of
- * `words`, and stores how many groups there are: one for each seven bytes, and one more. Refusals: 1 if
+ * `words`, and stores how many groups there are: one for each seven bytes, and one more. Track 8 records the
+ * complement of the exclusive-or of the other eight, so that each nine-bit character has odd parity. Refusals: 1 if
  * there are more than 4101 bytes, 2 if the space is under nine words a group; `groups` is then as it was. */
 uint16_t rindthok_write6250(const uint8_t *bytes, size_t byte_count, uint16_t *words, size_t word_space, size_t *groups, size_t *place);
 
@@ -87,7 +88,10 @@ uint16_t rindthok_write6250(const uint8_t *bytes, size_t byte_count, uint16_t *w
  * there are not nine words and one map for each of 1 to 586 groups; 2 if the output has under 7 bytes a group, less
  * 1; 3 if a word is above 1023 or a map above 511; 4 if a group has three or more tracks pointed, by its map or by an
  * illegal word, 5 if no group of the code fits it, with the first such group as place; 6 if the padding is not as a
- * writer leaves it. `size`, `changes` and `output` are then as they were. */
+ * writer leaves it. `size`, `changes` and `output` are then as they were.
+ * A record whose track 8 has even parity, as it was written before document 02's request 2.2, reads with word 8 of
+ * every group changed, and with one more wrong track in a group it is refused by 5 or read as another: give each
+ * word 8 the word of the complement first. */
 uint16_t rindthok_read6250_forward(const uint16_t *words, size_t word_count, const rindthok_algebraic_map *maps, size_t map_count, uint8_t *output, size_t output_space, size_t *size, size_t *changes, size_t *place);
 uint16_t rindthok_read6250_backward(const uint16_t *words, size_t word_count, const rindthok_algebraic_map *maps, size_t map_count, uint8_t *output, size_t output_space, size_t *size, size_t *changes, size_t *place);
 
