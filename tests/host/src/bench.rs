@@ -5,7 +5,7 @@
 use crate::damage6250::make_even;
 use crate::library::{self, Answer, Direction};
 use crate::reading6250::turned;
-use crate::record6250::written;
+use crate::record6250::{word, written};
 use crate::{reading800, record800};
 use crate::vectors::{LENT, LENT_BYTE};
 use crate::Tried;
@@ -54,6 +54,25 @@ fn even_record(length: usize) -> bool {
     let mut words = written(&data);
     make_even(&mut words);
     reads(&words, Answer::Delivered(vec![length as u64, words.len() as u64 / 9]), &data)
+}
+
+/// Two groups of even parity in track 8, and one more wrong track in the first: how many of the legal words that it can
+/// have are refused by 5, and how many are delivered with other data.
+fn even_and_one_more(data: [u8; 7]) -> [usize; 2] {
+    let mut even = written(&data);
+    make_even(&mut even);
+    let mut counts = [0; 2];
+    for (track, byte) in (0..8).flat_map(|track| (0..=255).map(move |byte| (track, byte))) {
+        let mut words = even.clone();
+        words[track] = word(byte);
+        let mut output = [LENT_BYTE; 13];
+        match library::read6250(Direction::Forward, &words, &[0, 0], &mut output) {
+            Answer::Refused(5, 0) => counts[0] += 1,
+            Answer::Delivered(_) if output[..7] != data => counts[1] += 1,
+            _ => assert!(words == even, "neither refused by 5 nor delivered with other data: {words:?}"),
+        }
+    }
+    counts
 }
 
 /// Whether characters are answered so in both directions, with these data in front of the output.
@@ -112,5 +131,7 @@ pub fn readings6250() -> Tried {
     for length in [0, 1, 6, 7, 4101] {
         tried.expect("even parity in track 8: one changed in each group", even_record(length));
     }
+    let counts = even_and_one_more([131, 212, 148, 248, 234, 1, 2]);
+    tried.expect("even parity and one more wrong track: 1,984 refused by 5, 56 another group", counts == [1984, 56]);
     tried
 }
