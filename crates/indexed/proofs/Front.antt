@@ -6,8 +6,8 @@ use mathlib.Core.List.{List, [], _∷_, _++_}
 use Prim.Native.Nat.{ℕ, suc, _+_, _≤_, _<_}
 use native.Mathlib.Nat.{le-of-lt, add-sub-of-le}
 use native.Mathlib.Numerals.{add-one}
-use lib.ListN.{length, getD, take, drop, set, length-append, length-drop}
-use lib.Seq.{drop-cons, take-suc, set-at, append-snoc, length-take-le, take-length, take-at}
+use lib.ListN.{length, getD, take, drop, set, length-append, length-drop, take-append-drop}
+use lib.Seq.{drop-cons, take-suc, set-at, set-set, append-snoc, length-take-le, take-length, take-at, drop-at}
 use native.Mathlib.Omega.{arith}
 use Rattle.indexed.specs.List.{tabulate}
 use Rattle.indexed.proofs.Tabulate.{length-tabulate, getD-tabulate, tabulate-last}
@@ -35,6 +35,22 @@ length-front k result output hr ho =
 pub front-all : {A : Type 0} (k : ℕ) (result output : List A) → k ≡ length result → front k result output ≡ result ++ drop k output
 front-all k result output e =
     ap (λ (j : ℕ). take j result ++ drop k output) e ∙ ap (λ (r : List _). r ++ drop k output) (take-length result)
+
+-- ---- stored last first: from place k on the output holds the whole, and in front of that what it held
+
+pub front-less : {A : Type 0} (k : ℕ) (output whole : List A) (d : A) → k < length output → k < length whole
+    → set (front (k + 1) output whole) k (getD whole k d) ≡ front k output whole
+front-less k output whole d ho hw =
+    let value = getD whole k d in
+    ap (λ (l : List _). set l k value) (sym (front-more k output whole d ho hw))
+    ∙ set-set (front k output whole) k (getD output k d) value
+    ∙ ap (λ (r : List _). set (take k output ++ r) k value) (drop-cons whole k d hw)
+    ∙ set-at (take k output) value (drop (suc k) whole) value k (length-take-le k output (le-of-lt ho))
+    ∙ ap (λ (r : List _). take k output ++ r) (sym (drop-cons whole k d hw))
+
+pub front-none : {A : Type 0} (k : ℕ) (result output : List A) → length result ≡ k → output ≡ front k output (result ++ drop k output)
+front-none k result output e =
+    sym (take-append-drop k output) ∙ ap (λ (r : List _). take k output ++ r) (sym (drop-at result (drop k output) k e))
 
 -- ---- filled with the values of a function
 

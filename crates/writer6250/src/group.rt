@@ -11,7 +11,8 @@ ghost use Rattle.group6250.specs.Packed.{valuesOf};
 ghost use Rattle.record6250.specs.Tape.{numbersFrom};
 ghost use Rattle.record6250.specs.Track.{wordsOf};
 
-// Stores a group's nine words at the front. On tape track 8 has the complement of document 000's (document 02, "2.2").
+// Stores a group's nine words at the front. On tape track 8 has the complement of document 000's (document 02, "2.2"). The
+// last word is stored first, since the parity track's value is made last.
 pub(crate) fn store(words: &mut [u16], group: Group)
     requires { ⌜ numbersPerGroup ≤ length (now words) ⌝ }
     ensures { λ _. ⌜ now (words .exit) ≡ numbersFrom (wordsOf (valuesOf group)) ++ drop numbersPerGroup (now (words .entry)) ⌝ }
@@ -20,9 +21,9 @@ pub(crate) fn store(words: &mut [u16], group: Group)
         tracks: group.tracks,
         parity: group.parity ^ 255,
     };
-    let mut j = 0;
-    while j < Code6250::NUMBERS {
+    let mut j = Code6250::NUMBERS;
+    while 0 < j {
+        j -= 1;
         words[j] = word(recorded.value(j));
-        j += 1;
     }
 }
