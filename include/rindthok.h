@@ -90,8 +90,8 @@ uint16_t rindthok_write6250(const uint8_t *bytes, size_t byte_count, uint16_t *w
  * illegal word, 5 if no group of the code fits it, with the first such group as place; 6 if the padding is not as a
  * writer leaves it. `size`, `changes` and `output` are then as they were.
  * A record whose track 8 has even parity, as it was written before document 02's request 2.2, reads with word 8 of
- * every group changed; with one more wrong track in a group it is refused by 5 or taken for another record: give each
- * word 8 the word of the complement first. */
+ * every group changed; with one more wrong track in a group it is refused or taken for another record. Exchange each
+ * word 8 for the word of its byte's complement first. */
 uint16_t rindthok_read6250_forward(const uint16_t *words, size_t word_count, const rindthok_algebraic_map *maps, size_t map_count, uint8_t *output, size_t output_space, size_t *size, size_t *changes, size_t *place);
 uint16_t rindthok_read6250_backward(const uint16_t *words, size_t word_count, const rindthok_algebraic_map *maps, size_t map_count, uint8_t *output, size_t output_space, size_t *size, size_t *changes, size_t *place);
 
