@@ -12,7 +12,7 @@ ghost use Rattle.record6250.specs.Tape.{numbersFrom};
 ghost use Rattle.record6250.specs.Track.{wordsOf};
 
 // Stores a group's nine words at the front. On tape track 8 has the complement of document 000's (document 02, "2.2"). The
-// last word is stored first, since the parity track's value is made last.
+// last word is stored first, which is measured to be faster (decision D20).
 pub(crate) fn store(words: &mut [u16], group: Group)
     requires { ⌜ numbersPerGroup ≤ length (now words) ⌝ }
     ensures { λ _. ⌜ now (words .exit) ≡ numbersFrom (wordsOf (valuesOf group)) ++ drop numbersPerGroup (now (words .entry)) ⌝ }
