@@ -11,7 +11,7 @@ use lib.ListN.{length, getD}
 use lib.Seq.{ext-getD}
 use Rattle.indexed.specs.List.{tabulate, below}
 use Rattle.indexed.proofs.Differ.{AgreeBut, one, differences-one, differences-both}
-use Rattle.indexed.proofs.Tabulate.{length-tabulate, getD-tabulate}
+use Rattle.indexed.proofs.Tabulate.{length-tabulate, getD-tabulate, tabulate-getD}
 use Rattle.register.specs.Bit.{bit}
 use Rattle.register.specs.Exponent.{Exponent}
 use Rattle.register.specs.Xor.{_⊕_}
@@ -22,8 +22,8 @@ use Rattle.rectangular.specs.Syndrome.{paritySyndrome, checkSyndrome, Er
 use Rattle.rectangular.proofs.Constants.{exponent-of-T}
 use Rattle.rectangular.proofs.Distance.{two-tracks, three-tracks}
 use Rattle.rectangular.proofs.Equations.{group-ext}
-use Rattle.rectangular.proofs.Errors.{below-within, Accounts, OneFound, one-error, one-found, two-errors, errors-many, errors-none, errors-two}
-use Rattle.rectangular.proofs.Pointed.{pointed-lt, pointed-ascends, pointed-bit, outside}
+use Rattle.rectangular.proofs.Errors.{below-within, Accounts, OneFound, one-error, one-found, two-errors, errors-many, errors-too-many, errors-none, errors-two}
+use Rattle.rectangular.proofs.Pointed.{pointed-lt, pointed-ascends, pointed-bit, outside, none-pointed}
 use Rattle.rectangular.proofs.Suits.{nine-tracks}
 use Rattle.rectangular.proofs.Syndrome.{no-error, untouched, parity-lt, check-lt, corrects-two, accounts}
 
@@ -199,6 +199,34 @@ module _ (w f n : ℕ) (s : Suits w f) (x : Exponent w f n) (odd : n ≡ 2 * (n 
       unique w f s v pointers (λ k. getD (c .0) k 0) g (r .1) group (r .2) allowed k (omega arith)
       ∙ sym (getD-tabulate (suc w) g k 0 b)))
 
+-- ---- one pointed track against none
+
+-- what may differ with one track pointed may differ with none pointed: it is one track
+pub allowed-anywhere : (n pointers : ℕ) (read right : ℕ → ℕ) → length (pointedTracks n pointers) ≡ 1 → Allowed n pointers read right → Allowed n 0 read right
+unfolding Allowed
+allowed-anywhere n pointers read right one (inl a) = absurd (omega arith)
+allowed-anywhere n pointers read right one (inr a) = by (pointedTracks n pointers) refl
+  where
+    by : (l : List ℕ) → pointedTracks n pointers ≡ l → Allowed n 0 read right
+    by [] e = absurd (omega (arith, ap length e))
+    by (i ∷ []) e =
+        inl (
+          ap length (none-pointed n),
+          differences-one read right i n (λ k h ni nj. a .2 k h (outside n pointers (i ∷ []) e k h (not-it i k ni))),
+        )
+    by (i ∷ j ∷ more) e = absurd (omega (arith, ap length e))
+
+-- and what is corrected with one track pointed is corrected alike with none pointed
+pub corrected-anywhere : (w f n : ℕ) → Suits w f → Exponent w f n → n ≡ 2 * (n / 2) + 1 → w ≤ n → (v : ℕ → ℕ) → ((k : ℕ) → k ≤ w → v k < 2 ^ w)
+    → (pointers : ℕ) → length (pointedTracks (suc w) pointers) ≡ 1 → (u : List ℕ)
+    → judged w f n v (pointedTracks (suc w) pointers) ≡ corrected u → judged w f n v (pointedTracks (suc w) 0) ≡ corrected u
+corrected-anywhere w f n s x odd wide v bounds pointers one u e =
+    let r = sound w f n s x odd wide v bounds pointers u e in
+    complete w f n s x odd wide v bounds 0 (λ k. getD u k 0) (r .1) (allowed-anywhere (suc w) pointers v _ one (r .2))
+    ∙ ap corrected (tabulate-getD (suc w) u (r .0))
+
+-- ---- which judgement it is
+
 -- why no group fits, by how many tracks are pointed
 module _ (w f n : ℕ) (v : ℕ → ℕ) (l : List ℕ) where
   many-told : (e : Errors) → without w v e ≡ manyPointed → e ≡ tooMany
@@ -221,6 +249,10 @@ module _ (w f n : ℕ) (v : ℕ → ℕ) (l : List ℕ) where
   unfolding judged
   judged-none e = errors-none w f n (paritySyndrome w v) (checkSyndrome w f v) l (none-told _ e)
 
+  pub many-judged : 3 ≤ length l → judged w f n v l ≡ manyPointed
+  unfolding judged without
+  many-judged h = ap (without w v) (errors-too-many w f n (paritySyndrome w v) (checkSyndrome w f v) l h)
+
   -- two pointed tracks always have one
   pub judged-two : length l ≡ 2 → (u : List ℕ) × (judged w f n v l ≡ corrected u)
   unfolding judged without twoErrors
@@ -237,9 +269,16 @@ module _ (v : ℕ → ℕ) (bounds : (k : ℕ) → k ≤ 8 → v k < 2 ^ 8) (poi
       → judged 8 feedback exponent v (pointedTracks 9 pointers) ≡ corrected (tabulate 9 g)
   nine-complete = complete 8 feedback exponent nine-tracks exponent-of-T refl (omega arith) v bounds pointers
 
+  pub nine-anywhere : length (pointedTracks 9 pointers) ≡ 1 → (u : List ℕ)
+      → judged 8 feedback exponent v (pointedTracks 9 pointers) ≡ corrected u → judged 8 feedback exponent v (pointedTracks 9 0) ≡ corrected u
+  nine-anywhere = corrected-anywhere 8 feedback exponent nine-tracks exponent-of-T refl (omega arith) v bounds pointers
+
 module _ (v : ℕ → ℕ) (pointers : ℕ) where
   pub nine-many : judged 8 feedback exponent v (pointedTracks 9 pointers) ≡ manyPointed → 3 ≤ length (pointedTracks 9 pointers)
   nine-many = judged-many 8 feedback exponent v (pointedTracks 9 pointers)
 
   pub nine-none : judged 8 feedback exponent v (pointedTracks 9 pointers) ≡ noGroup → length (pointedTracks 9 pointers) ≤ 1
   nine-none = judged-none 8 feedback exponent v (pointedTracks 9 pointers)
+
+  pub many-nine : 3 ≤ length (pointedTracks 9 pointers) → judged 8 feedback exponent v (pointedTracks 9 pointers) ≡ manyPointed
+  many-nine = many-judged 8 feedback exponent v (pointedTracks 9 pointers)

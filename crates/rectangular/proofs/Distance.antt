@@ -1,5 +1,5 @@
--- Over the width: two groups of the code that agree but for two tracks are equal (document 000, theorems 1 and 2), so two
--- unequal groups differ in three tracks at least.
+-- Over the width: no two tracks weigh an error alike, so that two groups of the code that agree but for two tracks are equal (document
+-- 000, theorems 1 and 2), and two unequal groups differ in three tracks at least.
 -- Assumes nothing.
 use mathlib.Core.Path.{_≡_, sym, ap, ap₂, _∙_}
 use Prim.Native.Nat.{ℕ, suc, _+_, _-_, _^_, _<_, _≤_}
@@ -17,6 +17,27 @@ use Rattle.register.proofs.Shift.{shifts-lt, shifts-xor, shifts-zero, shifts-ad
 use Rattle.register.proofs.Sum.{sum-ext, sum-xor, sum-one, sum-two}
 use Rattle.register.proofs.Xor.{xor-zero→eq}
 use Rattle.rectangular.specs.Group.{IsGroup, Suits}
+use Rattle.rectangular.specs.Syndrome.{weighed}
+use Rattle.rectangular.proofs.Syndrome.{weighed-low, weighed-parity}
+
+-- an error that leaves the same in S2 from two tracks is none: a power of T keeps it, or takes it to 0
+pub weighed-apart : (w f : ℕ) → Suits w f → (i j : ℕ) → i < j → j ≤ w → (e : ℕ) → e < 2 ^ w → weighed w f i e ≡ weighed w f j e → e ≡ 0
+weighed-apart w f s i j below within e small same = by (decLt j w)
+  where
+    by : Dec (j < w) → e ≡ 0
+    by (yes h) =
+        let apart : i + (j - i) ≡ j = omega arith in
+        let kept : shifts w f i (shifts w f (j - i) e) ≡ shifts w f i e =
+        sym (shifts-add w f i (j - i) e)
+        ∙ ap (λ (n : ℕ). shifts w f n e) apart
+        ∙ sym (weighed-low w f j e h)
+        ∙ sym same
+        ∙ weighed-low w f i e (omega arith) in
+        s .keeps-none (j - i) (omega arith) (omega arith) e small
+        (shifts-injective w f (s .exponent) (s .is-exponent) (s .fits) i (shifts w f (j - i) e) e (shifts-lt w f (j - i) e (s .fits) small) small kept)
+    by (no h) =
+        let alone : shifts w f i e ≡ 0 = sym (weighed-low w f i e (omega arith)) ∙ same ∙ weighed-parity w f j e (omega arith) in
+        shifts-injective w f (s .exponent) (s .is-exponent) (s .fits) i e 0 small (pow-pos w) (alone ∙ sym (shifts-zero w f i))
 
 module _ (w f : ℕ) (s : Suits w f) (u v : ℕ → ℕ) (gu : IsGroup w f u) (gv : IsGroup w f v) where
   -- the difference, track by track; it satisfies the same equations
@@ -48,34 +69,28 @@ module _ (w f : ℕ) (s : Suits w f) (u v : ℕ → ℕ) (gu : IsGroup w f u) (g
     d-equal : d i ≡ d j
     d-equal = xor-zero→eq (d i) (d j) (sym (sum-two (suc w) d i j below (omega arith) d-elsewhere) ∙ d-parity)
 
-    -- by the check equation the difference is kept by a power of T, or taken to 0 by one
+    -- by the check equation both tracks weigh it alike
     d-zero : d i ≡ 0
-    d-zero = by (decLt j w)
+    d-zero = weighed-apart w f s i j below within (d i) (d-lt i (omega arith)) (by (decLt j w))
       where
         shifted-zero : (k : ℕ) → d k ≡ 0 → shifts w f k (d k) ≡ 0
         shifted-zero k e = ap (shifts w f k) e ∙ shifts-zero w f k
 
-        by : Dec (j < w) → d i ≡ 0
+        by : Dec (j < w) → weighed w f i (d i) ≡ weighed w f j (d i)
         by (yes h) =
             let both : shifts w f i (d i) ⊕ shifts w f j (d j) ≡ 0 =
             sym (sum-two w (λ k. shifts w f k (d k)) i j below h (λ k b ni nj. shifted-zero k (d-elsewhere k (omega arith) ni nj)))
             ∙ d-checked in
-            let apart : i + (j - i) ≡ j = omega arith in
-            let kept : shifts w f i (shifts w f (j - i) (d i)) ≡ shifts w f i (d i) =
-            sym (shifts-add w f i (j - i) (d i))
-            ∙ ap (λ (n : ℕ). shifts w f n (d i)) apart
-            ∙ ap (shifts w f j) d-equal
-            ∙ sym (xor-zero→eq (shifts w f i (d i)) (shifts w f j (d j)) both) in
-            s .keeps-none (j - i) (omega arith) (omega arith) (d i) (d-lt i (omega arith))
-            (shifts-injective w f (s .exponent) (s .is-exponent) (s .fits) i (shifts w f (j - i) (d i)) (d i)
-            (shifts-lt w f (j - i) (d i) (s .fits) (d-lt i (omega arith))) (d-lt i (omega arith)) kept)
+            weighed-low w f i (d i) (omega arith)
+            ∙ xor-zero→eq (shifts w f i (d i)) (shifts w f j (d j)) both
+            ∙ ap (shifts w f j) (sym d-equal)
+            ∙ sym (weighed-low w f j (d i) h)
         by (no h) =
-            let alone : shifts w f i (d i) ≡ 0 =
-            sym (sum-one w (λ k. shifts w f k (d k)) i (omega arith)
+            weighed-low w f i (d i) (omega arith)
+            ∙ sym (sum-one w (λ k. shifts w f k (d k)) i (omega arith)
             (λ k b ni. shifted-zero k (d-elsewhere k (omega arith) ni (λ e. omega arith))))
-            ∙ d-checked in
-            shifts-injective w f (s .exponent) (s .is-exponent) (s .fits) i (d i) 0 (d-lt i (omega arith)) (pow-pos w)
-            (alone ∙ sym (shifts-zero w f i))
+            ∙ d-checked
+            ∙ sym (weighed-parity w f j (d i) (omega arith))
 
     pub two-tracks : (k : ℕ) → k ≤ w → u k ≡ v k
     unfolding d

@@ -6,12 +6,13 @@ use mathlib.Core.List.{List, [], _∷_}
 use mathlib.Core.Logic.{_⊎_, inl, inr}
 use Prim.Native.Nat.{ℕ, suc, _*_, _+_, _/_, _^_, _<_, _≤_}
 use native.Mathlib.Omega.{arith}
-use borrow.Author.Tests.{lt-ltb, ltb-true, eqb-true, eq-eqb}
+use borrow.Author.Tests.{lt-ltb, ltb-true, eqb-true, eq-eqb, ne-eqb}
 use lib.Bits.{xor-lt, xor-self, xor-zero-r}
 use lib.Dec.{eqb, ltb}
 use lib.ListN.{length, getD}
 use lib.Pow.{pow-pos}
-use Rattle.indexed.specs.List.{below}
+use Rattle.indexed.specs.List.{below, firstBelow}
+use Rattle.indexed.proofs.Below.{first-below-at}
 use Rattle.indexed.proofs.Tabulate.{length-tabulate, getD-tabulate}
 use Rattle.indexed.proofs.First.{first-passes, first-found}
 use Rattle.register.specs.Exponent.{Exponent}
@@ -20,6 +21,7 @@ use Rattle.register.proofs.Xor.{xor-assoc}
 use Rattle.rectangular.specs.Syndrome.{weighed, secondError, errorsIn, tooMany, unaccounted, firstAccounting, oneError, twoErrors, errorsOf}
 use Rattle.rectangular.specs.Correction.{pointedTracks}
 use Rattle.rectangular.specs.Group.{Suits}
+use Rattle.rectangular.proofs.Distance.{weighed-apart}
 use Rattle.rectangular.proofs.Pointed.{pointed-lt, pointed-ascends}
 use Rattle.rectangular.proofs.Syndrome.{weighed-parity, second-lt, second-accounts}
 
@@ -83,6 +85,14 @@ module _ (w f s1 s2 : ℕ) where
         let z : _≡_ {A = ℕ} 0 1 = cc in
         omega arith
 
+  -- a track in which it accounts is the first in which it does, since no two tracks weigh it alike
+  pub first-accounting : Suits w f → s1 < 2 ^ w → (s1 ≡ 0 → ⊥) → (k : ℕ) → k ≤ w → weighed w f k s1 ≡ s2
+      → firstAccounting w f s1 s2 (below (suc w)) ≡ k
+  unfolding firstAccounting firstBelow
+  first-accounting s small some k h is =
+      first-below-at (suc w) (λ j. eqb (weighed w f j s1) s2) k (omega arith)
+      (λ j b. ne-eqb _ _ (λ e. some (weighed-apart w f s j k b h s1 small (e ∙ sym is)))) (eq-eqb _ _ is)
+
   -- two errors, in two tracks
   pub two-errors : (n : ℕ) → Suits w f → Exponent w f n → n ≡ 2 * (n / 2) + 1 → w ≤ n → (i j : ℕ) → i < j → j ≤ w → s1 < 2 ^ w → s2 < 2 ^ w
       → Accounts w f s1 s2 i (s1 ⊕ secondError w f n i j s1 s2) j (secondError w f n i j s1 s2)
@@ -114,6 +124,13 @@ module _ (w f n s1 s2 : ℕ) where
   errors-many (i ∷ []) e = absurd (one-not-many (i ∷ []) e)
   errors-many (i ∷ j ∷ []) e = let z : _≡_ {A = ℕ} 0 1 = cc in absurd (omega arith)
   errors-many (i ∷ j ∷ k ∷ more) e = omega arith
+
+  pub errors-too-many : (l : List ℕ) → 3 ≤ length l → errorsOf w f n s1 s2 l ≡ tooMany
+  unfolding errorsOf
+  errors-too-many [] h = absurd (omega arith)
+  errors-too-many (i ∷ []) h = absurd (omega arith)
+  errors-too-many (i ∷ j ∷ []) h = absurd (omega arith)
+  errors-too-many (i ∷ j ∷ k ∷ more) h = refl
 
   pub errors-none : (l : List ℕ) → errorsOf w f n s1 s2 l ≡ unaccounted → length l ≤ 1
   unfolding errorsOf twoErrors
