@@ -24,6 +24,10 @@ pub enum Damage {
     Clean,
     /// One track that nobody points is wrong in every group, or in half of the characters.
     OneTrack,
+    /// One track that the drive points is wrong in every group.
+    OnePointed,
+    /// One track is wrong in every group, and the drive points at another.
+    AnotherPointed,
     /// Two tracks that the drive points are wrong in every group.
     TwoPointed,
 }
@@ -79,16 +83,18 @@ fn record6250(seeded: &mut Seeded, length: usize, backward: bool, damage: Damage
     fast6250::write(&data, &mut tape);
     let (first, second) = (seeded.below(9), seeded.below(8));
     let second = if second < first { second } else { second + 1 };
+    let (wrong, pointed): (&[usize], &[usize]) = match damage {
+        Damage::Clean => (&[], &[]),
+        Damage::OneTrack => (&[first], &[]),
+        Damage::OnePointed => (&[first], &[first]),
+        Damage::AnotherPointed => (&[first], &[second]),
+        Damage::TwoPointed => (&[first, second], &[first, second]),
+    };
     for g in 0..groups {
-        let tracks: &[usize] = match damage {
-            Damage::Clean => &[],
-            Damage::OneTrack => &[first],
-            Damage::TwoPointed => &[first, second],
-        };
-        for &track in tracks {
+        for &track in wrong {
             tape[9 * g + track] = other_word(seeded, tape[9 * g + track]);
-            maps[g] |= if damage == Damage::TwoPointed { 1 << track } else { 0 };
         }
+        maps[g] = pointed.iter().map(|track| 1 << track).sum();
     }
     if backward {
         maps.reverse();
@@ -120,6 +126,8 @@ pub fn reading(backward: bool, damage: Damage) -> String {
     let damage = match damage {
         Damage::Clean => "clean",
         Damage::OneTrack => "one track wrong",
+        Damage::OnePointed => "one pointed",
+        Damage::AnotherPointed => "another pointed",
         Damage::TwoPointed => "two pointed",
     };
     format!("{direction}, {damage}")

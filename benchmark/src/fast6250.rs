@@ -210,6 +210,15 @@ fn located(s1: u8, s2: u8) -> Option<usize> {
     }
 }
 
+/// The tracks that may differ: none in particular where the drive points at one and no word is illegal.
+pub fn relied(pointers: u16, illegal: u16) -> u16 {
+    if illegal == 0 && pointers.is_power_of_two() {
+        0
+    } else {
+        pointers | illegal
+    }
+}
+
 /// The errors in two tracks, of which the second may be none, or the refusal.
 pub fn errors(pointers: u16, s1: u8, s2: u8) -> Result<[(usize, u8); 2], u16> {
     let first = pointers.trailing_zeros() as usize;
@@ -254,7 +263,7 @@ fn read_groups<const BACKWARD: bool>(words: &[u16], maps: &[u16], body: &mut [u8
         illegal = (illegal | value) >> 8;
         if illegal | u16::from(s1 | s2) | maps[place] != 0 {
             let mut changed = if illegal == 0 { 0 } else { illegal_map(from, direction) };
-            match errors(maps[place] | changed, s1, s2) {
+            match errors(relied(maps[place], changed), s1, s2) {
                 Ok(pair) => {
                     for (track, error) in pair {
                         columns ^= if track < 8 { BYTE_SPREADS[error as usize] << track } else { 0 };

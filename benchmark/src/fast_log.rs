@@ -1,7 +1,7 @@
 //! The sense log written for speed in Rust: every rule of document 02, request 2.1. Groups are judged by the tables of
 //! `fast6250`, but no data are made, only the last group's, for its padding. It shares no table and no code with the library.
 
-use crate::fast6250::{errors, illegal_map, stray, BYTE_SPREADS, MOST_GROUPS, REDUCTIONS, SPREADS, VALUES};
+use crate::fast6250::{errors, illegal_map, relied, stray, BYTE_SPREADS, MOST_GROUPS, REDUCTIONS, SPREADS, VALUES};
 use crate::Answer;
 
 /// The errors of one group and the map of its changed tracks, or the refusal.
@@ -22,7 +22,7 @@ fn judged(words: &[u16; 9], map: u16, direction: usize) -> Result<([(usize, u8);
         return Ok(([(8, 0); 2], 0));
     }
     let mut changed = if illegal == 0 { 0 } else { illegal_map(words, direction) };
-    let pair = errors(map | changed, s1, s2)?;
+    let pair = errors(relied(map, changed), s1, s2)?;
     for (track, error) in pair {
         changed |= u16::from(error != 0) << track;
     }

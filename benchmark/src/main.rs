@@ -152,7 +152,7 @@ fn best(cases: &[(Call, usize)]) -> Vec<Measured> {
 }
 
 /// The damages at 6250.
-const DAMAGES: [Damage; 3] = [Damage::Clean, Damage::OneTrack, Damage::TwoPointed];
+const DAMAGES: [Damage; 5] = [Damage::Clean, Damage::OneTrack, Damage::OnePointed, Damage::AnotherPointed, Damage::TwoPointed];
 
 fn readings(read: impl Fn(bool, Damage) -> Call, damages: &[Damage]) -> Vec<Call> {
     [false, true].into_iter().flat_map(|backward| damages.iter().map(move |&damage| (backward, damage))).map(|(backward, damage)| read(backward, damage)).collect()

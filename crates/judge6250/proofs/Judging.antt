@@ -1,22 +1,25 @@
 -- The errors as the code finds them: by a track that was searched for, and by counts of the map's bits.
 -- Assumes nothing.
 use mathlib.Core.Path.{_≡_, refl, sym, ap, ap₂, _∙_}
-use mathlib.Core.Bool.{Bool, true, false, cond}
+use mathlib.Core.Bool.{Bool, true, false, cond, _&&_}
 use mathlib.Core.List.{List, [], _∷_}
 use Prim.Native.Nat.{ℕ, _-_, _<_, _≤_}
 use native.Mathlib.Nat.{suc-ne-zero, suc-inj}
 use native.Mathlib.Omega.{arith}
-use borrow.Author.Tests.{lt-ltb, le-ltb, eq-eqb, ne-eqb}
+use borrow.Author.Tests.{lt-ltb, le-ltb, ltb-true, ltb-false, eq-eqb, ne-eqb}
 use lib.Bits.{bitAnd}
 use lib.Count.{ones, onesIn, trailingZeros}
 use lib.Dec.{eqb, ltb}
 use lib.ListN.{length, getD}
 use Rattle.indexed.specs.List.{tabulate, tabulateFrom, firstWhere, below, keep}
+use Rattle.indexed.proofs.Below.{length-below, getD-below}
 use Rattle.indexed.proofs.Test.{equal}
 use Rattle.register.specs.Bit.{bit}
 use Rattle.rectangular.specs.Constants.{feedback, exponent}
 use Rattle.rectangular.specs.Correction.{pointedTracks}
 use Rattle.rectangular.specs.Syndrome.{weighed, Errors, errorsIn, tooMany, unaccounted, firstAccounting, oneError, errorsOf}
+use Rattle.rectangular.proofs.Errors.{errors-too-many}
+use Rattle.judge6250.specs.Told.{reliedIn}
 
 -- ---- one error, by the index at which it was searched for
 
@@ -42,9 +45,45 @@ module _ (s1 s2 : ℕ) (tracks : List ℕ) (t : ℕ) (found : firstAccounting 8 
   one-none h =
       sym (ap by-index found ∙ ap (λ (b : Bool). cond b (errorsIn (getD tracks t 0) s1 8 0) unaccounted) (le-ltb t (length tracks) h))
 
+-- one error anywhere, by the track that was searched for
+pub one-anywhere : (s1 s2 k : ℕ) → k ≡ firstAccounting 8 feedback s1 s2 (below 9)
+    → cond (ltb k 9) (errorsIn k s1 8 0) unaccounted ≡ oneError 8 feedback s1 s2 (below 9)
+one-anywhere s1 s2 k found = by (ltb k 9) refl
+  where
+    by : (b : Bool) → ltb k 9 ≡ b → cond b (errorsIn k s1 8 0) unaccounted ≡ oneError 8 feedback s1 s2 (below 9)
+    by true e =
+        let h = ltb-true k 9 e in
+        one-is s1 s2 (below 9) k (sym found) (omega (arith, length-below 9)) k (getD-below 9 k 0 h) _ refl
+    by false e = let h = ltb-false k 9 e in one-none s1 s2 (below 9) k (sym found) (omega (arith, length-below 9))
+
+-- ---- the pointed tracks that are relied on
+
+pub relied-none : (legal : Bool) → reliedIn legal 0 ≡ 0
+unfolding reliedIn
+relied-none legal = by (legal && eqb (length (pointedTracks 9 0)) 1)
+  where
+    by : (b : Bool) → _≡_ {A = ℕ} (cond b 0 0) 0
+    by true = refl
+    by false = refl
+
+module _ (m : ℕ) where
+  pub relied-single : length (pointedTracks 9 m) ≡ 1 → reliedIn true m ≡ 0
+  unfolding reliedIn
+  relied-single e = ap (λ (b : Bool). cond b 0 m) (eq-eqb _ 1 e)
+
+  -- an illegal word, or more than one
+  pub relied-certain : reliedIn false m ≡ m
+  unfolding reliedIn
+  relied-certain = refl
+
+  pub relied-others : (legal : Bool) → (length (pointedTracks 9 m) ≡ 1 → ⊥) → reliedIn legal m ≡ m
+  unfolding reliedIn
+  relied-others true e = ap (λ (b : Bool). cond b 0 m) (ne-eqb _ 1 e)
+  relied-others false e = refl
+
 -- ---- the map of pointed tracks: tests of every map
 
-pointed-count : (m : ℕ) → m < 512 → length (pointedTracks 9 m) ≡ ones m
+pub pointed-count : (m : ℕ) → m < 512 → length (pointedTracks 9 m) ≡ ones m
 unfolding pointedTracks keep below tabulate tabulateFrom bit ones onesIn
 pointed-count = equal 512 (λ m. length (pointedTracks 9 m)) ones tt
 
@@ -67,10 +106,6 @@ list-of-two [] e = absurd (suc-ne-zero _ (sym e))
 list-of-two (x ∷ []) e = absurd (suc-ne-zero _ (sym (suc-inj e)))
 list-of-two (x ∷ y ∷ []) e = refl
 list-of-two (x ∷ y ∷ z ∷ l) e = absurd (suc-ne-zero _ (suc-inj (suc-inj e)))
-
-pub none-pointed : (m : ℕ) → m ≡ 0 → pointedTracks 9 m ≡ []
-unfolding pointedTracks keep below tabulate tabulateFrom bit
-none-pointed m e = ap (pointedTracks 9) e
 
 -- what is left of a map without its lowest one, and how many are pointed as that tells: 3 for three or more. A test of every map.
 abbrev others : ℕ → ℕ
@@ -115,13 +150,6 @@ module _ (m : ℕ) (h : m < 512) where
   two-pointed e =
       list-of-two (pointedTracks 9 m) (pointed-count m h ∙ e) ∙ ap₂ (λ (i j : ℕ). i ∷ j ∷ []) (pointed-first m h) (pointed-second m h)
 
-is-many : (s1 s2 : ℕ) (l : List ℕ) → (length l ≡ 0 → ⊥) → (length l ≡ 1 → ⊥) → (length l ≡ 2 → ⊥) → tooMany ≡ errorsOf 8 feedback exponent s1 s2 l
-unfolding errorsOf
-is-many s1 s2 [] a b d = absurd (a refl)
-is-many s1 s2 (i ∷ []) a b d = absurd (b refl)
-is-many s1 s2 (i ∷ j ∷ []) a b d = absurd (d refl)
-is-many s1 s2 (i ∷ j ∷ k ∷ l) a b d = refl
-
 -- a map of no ones is 0
 none-counted : (m : ℕ) → m < 512 → cond (eqb (ones m) 0) m 0 ≡ 0
 unfolding ones onesIn
@@ -130,6 +158,5 @@ none-counted = equal 512 (λ m. cond (eqb (ones m) 0) m 0) (λ m. 0) tt
 pub many-pointed : (s1 s2 m : ℕ) → m < 512 → (m ≡ 0 → ⊥) → (ones m ≡ 1 → ⊥) → (ones m ≡ 2 → ⊥)
     → tooMany ≡ errorsOf 8 feedback exponent s1 s2 (pointedTracks 9 m)
 many-pointed s1 s2 m h some b d =
-    is-many s1 s2 (pointedTracks 9 m)
-    (λ e. some (sym (ap (λ (t : Bool). cond t m 0) (eq-eqb (ones m) 0 (sym (pointed-count m h) ∙ e))) ∙ none-counted m h))
-    (λ e. b (sym (pointed-count m h) ∙ e)) (λ e. d (sym (pointed-count m h) ∙ e))
+    let none : ones m ≡ 0 → ⊥ = λ e. some (sym (ap (λ (t : Bool). cond t m 0) (eq-eqb (ones m) 0 e)) ∙ none-counted m h) in
+    sym (errors-too-many 8 feedback exponent s1 s2 (pointedTracks 9 m) (omega (arith, pointed-count m h)))

@@ -1,17 +1,19 @@
-// Errors from the two syndromes and the pointed tracks (document 000, theorems 1 and 2). Nothing here knows the
-// tracks' values, nor how they are held.
+// Errors from the two syndromes and the pointed tracks (document 000, theorems 1 and 2; document 02, "2.3"). Nothing
+// here knows the tracks' values, nor how they are held.
 use products::backward_power;
 use products::erasure_product;
 use products::forward_power;
 use rectangular::Code6250;
+ghost use mathlib.Core.Bool.{cond};
 ghost use mathlib.Core.Path.{_≡_};
 ghost use mathlib.Core.List.{[], _∷_};
 ghost use Prim.Native.Nat.{_^_, _<_};
+ghost use lib.Dec.{ltb};
 ghost use Rattle.indexed.specs.List.{below};
 ghost use Rattle.rectangular.specs.Constants.{feedback, exponent, tracks};
 ghost use Rattle.rectangular.specs.Correction.{pointedTracks};
-ghost use Rattle.rectangular.specs.Syndrome.{weighed, secondError, errorsIn, firstAccounting, oneError, twoErrors, errorsOf};
-ghost use Rattle.judge6250.specs.Told.{toldErrors};
+ghost use Rattle.rectangular.specs.Syndrome.{weighed, secondError, errorsIn, unaccounted, firstAccounting, oneError, twoErrors, errorsOf};
+ghost use Rattle.judge6250.specs.Told.{reliedIn, toldErrors};
 
 // An error in each of two tracks: `error` in the first, `other` in the second. Either may be 0, which is none.
 pub struct ErrorPair {
@@ -72,18 +74,31 @@ fn one(track: usize, s1: u8) -> Errors
     })
 }
 
-// No track is pointed: one may be wrong.
-fn unpointed(s1: u8, s2: u8) -> Errors
-    ensures { λ r. ⌜ toldErrors r ≡ oneError 8 feedback s1 s2 (below tracks) ⌝ }
+// The same, with a track that mostly is the one and so is tried first. No two tracks account, unless S1 is 0.
+fn located_likely(likely: usize, s1: u8, s2: u8) -> usize
+    requires { ⌜ likely < tracks ⌝ }
+    ensures { λ r. ⌜ r ≡ firstAccounting 8 feedback s1 s2 (below tracks) ⌝ }
 {
-    let track = located(s1, s2);
+    if s1 != 0 {
+        let leaves = weight(likely, s1);
+        if leaves == s2 {
+            return likely;
+        }
+    }
+    located(s1, s2)
+}
+
+// One track may be wrong: the one that was located, if there is one.
+fn anywhere(track: usize, s1: u8) -> Errors
+    ensures { λ r. ⌜ toldErrors r ≡ cond (ltb track tracks) (errorsIn track s1 8 0) unaccounted ⌝ }
+{
     if track < Code6250::TRACKS {
         return one(track, s1);
     }
     Errors::Unaccounted
 }
 
-// One track is pointed: it alone may be wrong, and the check equation must hold then.
+// One track is pointed and relied on: it alone may be wrong, and the check equation must hold then.
 fn pointed_once(track: usize, s1: u8, s2: u8) -> Errors
     requires { ⌜ track < tracks ⌝ }
     ensures { λ r. ⌜ toldErrors r ≡ oneError 8 feedback s1 s2 (track ∷ []) ⌝ }
@@ -123,17 +138,20 @@ fn pointed_twice(first: usize, second: usize, s1: u8, s2: u8) -> Errors
     })
 }
 
-// The errors by the tracks that are pointed, bit i of the map for track i.
-pub fn errors_of(s1: u8, s2: u8, pointers: u16) -> Errors
+// The errors by the tracks that are pointed, bit i of the map for track i, and whether all words are legal.
+pub fn errors_of(s1: u8, s2: u8, pointers: u16, legal: bool) -> Errors
     requires { ⌜ pointers < 2 ^ tracks ⌝ }
-    ensures { λ r. ⌜ toldErrors r ≡ errorsOf 8 feedback exponent s1 s2 (pointedTracks tracks pointers) ⌝ }
+    ensures { λ r. ⌜ toldErrors r ≡ errorsOf 8 feedback exponent s1 s2 (pointedTracks tracks (reliedIn legal pointers)) ⌝ }
 {
     if pointers == 0 {
-        return unpointed(s1, s2);
+        return anywhere(located(s1, s2), s1);
     }
     let first = u16::trailing_zeros(pointers) as usize;
     let others = pointers & (pointers - 1);
     if others == 0 {
+        if legal {
+            return anywhere(located_likely(first, s1, s2), s1);
+        }
         return pointed_once(first, s1, s2);
     }
     if others & (others - 1) == 0 {

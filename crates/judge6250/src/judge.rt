@@ -18,7 +18,7 @@ ghost use Rattle.register.specs.Xor.{_⊕_};
 ghost use Rattle.rectangular.specs.Constants.{feedback, exponent, tracks};
 ghost use Rattle.rectangular.specs.Correction.{pointedTracks, errorAt, judged, changedMap};
 ghost use Rattle.group6250.specs.Packed.{valuesOf};
-ghost use Rattle.judge6250.specs.Told.{toldJudged, toldChanged, changedBy, markAt};
+ghost use Rattle.judge6250.specs.Told.{reliedIn, toldJudged, toldChanged, changedBy, markAt};
 
 // The group that fits, and the tracks in which it differs from what was read.
 pub struct Correction {
@@ -75,10 +75,10 @@ fn is_clean(s1: u8, s2: u8, pointers: u16) -> bool
     false
 }
 
-// Judges a group by the tracks that are pointed, bit i of the map for track i.
-pub fn judge(group: Group, pointers: u16) -> Judged
+// Judges a group by the tracks that are pointed, bit i of the map for track i, and whether all words are legal.
+pub fn judge(group: Group, pointers: u16, legal: bool) -> Judged
     requires { ⌜ pointers < 2 ^ tracks ⌝ }
-    ensures told { λ r. ⌜ toldJudged r ≡ judged 8 feedback exponent (λ k. getD (valuesOf group) k 0) (pointedTracks tracks pointers) ⌝ }
+    ensures told { λ r. ⌜ toldJudged r ≡ judged 8 feedback exponent (λ k. getD (valuesOf group) k 0) (pointedTracks tracks (reliedIn legal pointers)) ⌝ }
     ensures changed { λ r. ⌜ toldChanged r ≡ changedBy (valuesOf group) (toldJudged r) ⌝ }
 {
     let s1 = parity(group.tracks) ^ group.parity;
@@ -86,7 +86,7 @@ pub fn judge(group: Group, pointers: u16) -> Judged
     if is_clean(s1, s2, pointers) {
         return Judged::Corrected(Correction { group, changed: 0 });
     }
-    match errors_of(s1, s2, pointers) {
+    match errors_of(s1, s2, pointers, legal) {
         Errors::In(pair) => Judged::Corrected(corrected(group, pair)),
         Errors::TooMany => Judged::ManyPointed,
         Errors::Unaccounted => Judged::NoGroup,

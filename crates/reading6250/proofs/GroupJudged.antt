@@ -1,9 +1,9 @@
 -- A group as the code receives and judges it: the judgement and the changed tracks are the definition's.
 -- Assumes nothing.
 use mathlib.Core.Path.{_≡_, refl, sym, ap, ap₂, subst, _∙_}
-use mathlib.Core.Bool.{Bool, true, false, cond}
+use mathlib.Core.Bool.{Bool, true, false, cond, _&&_}
 use mathlib.Core.List.{List}
-use Prim.Native.Nat.{ℕ, _+_, _*_, _/_, _%_, _<_}
+use Prim.Native.Nat.{ℕ, _+_, _*_, _/_, _%_, _^_, _<_}
 use native.Mathlib.Decide.{decLt, ℕ-discrete}
 use native.Mathlib.Nat.{mul-comm}
 use native.Mathlib.Omega.{arith}
@@ -23,14 +23,16 @@ use Rattle.rectangular.specs.Constants.{feedback, exponent, numbersPerGroup}
 use Rattle.rectangular.specs.Correction.{pointedTracks, corrected, judged, changedMap}
 use Rattle.group6250.specs.Packed.{valuesOf}
 use Rattle.group6250.specs.declared.group.Group.{Group}
+use Rattle.judge6250.specs.Told.{reliedIn}
 use Rattle.rectangular.proofs.Same.{judged-same}
 use Rattle.record6250.specs.Fits.{Passes}
-use Rattle.record6250.specs.Group.{illegalMap, reliedOn, relied, judgedGroup, rightValues, rightWords}
+use Rattle.record6250.specs.Group.{illegalMap, onePointer, reliedOn, relied, judgedGroup, rightValues, rightWords}
 use Rattle.record6250.specs.Picture.{groupLent, groupRead, mapRead}
 use Rattle.record6250.specs.Read.{readNumbers, readGroup, readMap, judgement, changedTracks}
 use Rattle.record6250.specs.Tape.{numbersAt, strayNumbers, wordsFrom}
 use Rattle.record6250.specs.Track.{wordOn, valueOn, wordsOf}
 use Rattle.record6250.proofs.FittingGroup.{same-test, group-sound}
+use Rattle.record6250.proofs.Relied.{illegal-lt}
 use Rattle.record6250.proofs.Reading.{words-long, words-below, none-stray-lent}
 use Rattle.record6250.proofs.Tape.{getD-numbersAt, number-below}
 use Rattle.record6250.proofs.Track.{value-of-word-on, word-of-value-on, word-on-legal, getD-wordsOf}
@@ -80,15 +82,20 @@ module _ (backward : Bool) (words maps : List ℕ) (g place : ℕ) (is-place : p
         ∙ getD-tabulate 9 (λ k. valueOn k (getD lent k 0)) k 0 h
         ∙ ap (λ (l : List ℕ). valueOn k (getD l k 0)) lent-group
 
-    pub relied-told : reliedOn (getD maps place 0) illegal ≡ relied (readGroup backward words maps g) (readMap backward words maps g)
-    unfolding relied
-    relied-told = ap₂ reliedOn lent-map (marks ∙ ap illegalMap lent-group)
+    -- the tracks relied on are the definition's
+    relied-told : reliedIn (eqb illegal 0) (bitOr (getD maps place 0) illegal) ≡ relied (readGroup backward words maps g) (readMap backward words maps g)
+    unfolding relied reliedOn onePointer reliedIn
+    relied-told =
+        ap₂ (λ (m i : ℕ). cond (eqb i 0 && eqb (length (pointedTracks 9 (bitOr m i))) 1) 0 (bitOr m i)) lent-map (marks ∙ ap illegalMap lent-group)
 
-    pub judgement-told : (pointers : ℕ) → pointers ≡ reliedOn (getD maps place 0) illegal
-        → judged 8 feedback exponent (λ k. getD (valuesOf group) k 0) (pointedTracks 9 pointers) ≡ judgement backward words maps g
+    pub pointed-lt : getD maps place 0 < 2 ^ 9 → bitOr (getD maps place 0) illegal < 2 ^ 9
+    pointed-lt h = or-lt 9 (getD maps place 0) illegal h (rw marks (illegal-lt lent))
+
+    pub judgement-told : judged 8 feedback exponent (λ k. getD (valuesOf group) k 0) (pointedTracks 9 (reliedIn (eqb illegal 0) (bitOr (getD maps place 0) illegal)))
+        ≡ judgement backward words maps g
     unfolding judgement judgedGroup
-    judgement-told pointers is =
-        ap (λ (p : ℕ). judged 8 feedback exponent (λ k. getD (valuesOf group) k 0) (pointedTracks 9 p)) (is ∙ relied-told)
+    judgement-told =
+        ap (λ (p : ℕ). judged 8 feedback exponent (λ k. getD (valuesOf group) k 0) (pointedTracks 9 p)) relied-told
         ∙ judged-same 8 feedback exponent (λ k. getD (valuesOf group) k 0) (λ k. valueOn k (getD (readGroup backward words maps g) k 0)) value-at
         (pointedTracks 9 (relied (readGroup backward words maps g) (readMap backward words maps g)))
 

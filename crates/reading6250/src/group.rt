@@ -12,15 +12,8 @@ ghost use lib.ListN.{length};
 ghost use Rattle.group_code.specs.Word.{readings};
 ghost use Rattle.judge6250.specs.Told.{toldJudged, toldChanged};
 ghost use Rattle.record6250.specs.Fits.{Passes};
-ghost use Rattle.record6250.specs.Group.{reliedOn, isCorrected};
+ghost use Rattle.record6250.specs.Group.{isCorrected};
 ghost use Rattle.record6250.specs.Read.{judgement, changedTracks};
-
-// The tracks that fitting relies on.
-fn relied(pointers: u16, illegal: u16) -> u16
-    ensures { λ r. ⌜ r ≡ reliedOn pointers illegal ⌝ }
-{
-    pointers | illegal
-}
 
 // Judges group g of a reading.
 pub(crate) fn judge_group(
@@ -37,13 +30,14 @@ pub(crate) fn judge_group(
     let place = turned_place(backward, maps.len(), g);
     let received = receive(words, place * Code6250::NUMBERS, backward, table);
     let group = received.group;
-    let pointed = relied(maps[place], received.illegal);
-    match judge(group, pointed) {
+    let illegal = received.illegal;
+    let pointed = maps[place] | illegal;
+    match judge(group, pointed, illegal == 0) {
         Judged::Corrected(right) => {
             let fitting = right.group;
             Judged::Corrected(Correction {
                 group: fitting,
-                changed: right.changed | received.illegal,
+                changed: right.changed | illegal,
             })
         }
         Judged::ManyPointed => Judged::ManyPointed,

@@ -1,6 +1,6 @@
--- Definitions that go by how a group lies on tape or by the tracks relied on say what the words of document 01 say with neither: changes
--- counted over all words of the forward picture, stray bits in the words as they stand there, groups turned, and pointed tracks. A request
--- that changes one of these names changes its law here. What track 8 records is not as before: it stands in OddParity.
+-- Definitions that go by how a group lies on tape say what the words of document 01 say without: changes counted over all words of the
+-- forward picture, stray bits in the words as they stand there, and groups turned. A request that changes one of these names changes its law
+-- here. What track 8 records and which tracks are relied on is not as before: they stand in OddParity and WrongPointer.
 -- Assumes nothing.
 use mathlib.Core.Path.{_≡_, refl, sym, ap, ap₂, _∙_}
 use mathlib.Core.Bool.{Bool, true, false, _||_}
@@ -17,7 +17,6 @@ use Rattle.indexed.proofs.Tabulate.{getD-tabulate}
 use Rattle.indexed.proofs.Total.{total-same, differences-same, differences-blocks}
 use Rattle.group_code.specs.Word.{forwardWord}
 use Rattle.record6250.specs.Fits.{wordsChanged}
-use Rattle.record6250.specs.Group.{pointed, reliedOn, relied}
 use Rattle.record6250.specs.Picture.{groupLent, groupRead, turnedNumbers}
 use Rattle.record6250.specs.Read.{readNumbers, readGroup, readMap, strayAt, firstStray}
 use Rattle.record6250.specs.Record.{writtenRecord}
@@ -65,11 +64,6 @@ module _ (backward : Bool) (words maps : List ℕ) where
   first-stray-as-read =
       first-below-same (length maps) _ _
       (λ g h. ap (λ (b : Bool). b || ltb 511 (readMap backward words maps g)) (stray-as-read backward (groupLent backward (length maps) words g)))
-
--- the tracks relied on are those that are pointed
-pub relied-pointed : (words : List ℕ) (pointers : ℕ) → relied words pointers ≡ pointed words pointers
-unfolding relied reliedOn pointed
-relied-pointed words pointers = refl
 
 -- what is turned is the words of each group, read backward, last group first
 pub turned-as-read : (numbers : List ℕ)

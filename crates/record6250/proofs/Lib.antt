@@ -7,6 +7,7 @@ pub mod Bounded
 pub mod Relied
 pub mod FittingGroup
 pub mod OddParity
+pub mod WrongPointer
 pub mod Reading
 pub mod Cases
 pub mod Answer

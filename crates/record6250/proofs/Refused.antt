@@ -1,27 +1,27 @@
--- A 6250 reading that is refused: a group with three tracks pointed, a group that nothing fits, or padding that breaks its rule; and
--- that the groups before, and at the padding all groups, have something that fits.
+-- A 6250 reading that is refused: by 4 exactly where the first group that nothing fits has three or more tracks pointed, by 5 exactly where it
+-- has fewer, one at most; or, where every group has something that fits, by 6 for padding that breaks its rule.
 -- Assumes nothing.
-use mathlib.Core.Path.{_≡_, refl, sym, subst, _∙_}
-use mathlib.Core.Bool.{Bool, false, not, true≢false}
+use mathlib.Core.Path.{_≡_, refl, sym, ap, subst, _∙_}
+use mathlib.Core.Bool.{Bool, true, false, not, true≢false}
 use mathlib.Core.List.{List}
 use mathlib.Core.Logic.{_⊎_, inl, inr}
 use Prim.Native.Nat.{ℕ, _<_, _≤_}
 use native.Mathlib.Omega.{arith}
 use borrow.Author.Tests.{not-true}
 use lib.ListN.{length, getD}
-use Rattle.answer.specs.Answer.{refused, numberOf}
+use Rattle.answer.specs.Answer.{refused, refusedFor, numberOf}
 use Rattle.rectangular.specs.Correction.{pointedTracks, Judgement, corrected, manyPointed, noGroup}
-use Rattle.rectangular.proofs.Correction.{nine-many, nine-none}
+use Rattle.rectangular.proofs.Correction.{nine-many, nine-none, many-nine}
 use Rattle.record6250.specs.Fits.{Passes, FitsGroup, Fits}
 use Rattle.record6250.specs.Group.{pointed, relied, judgedGroup, isCorrected, reasonOf, rightBytes}
 use Rattle.record6250.specs.Read.{readGroup, readMap, judgement, firstUnfit, judgedAnswer}
 use Rattle.record6250.specs.Record.{groupWords}
 use Rattle.record6250.proofs.Cases.{ThreeCases, cases}
-use Rattle.indexed.proofs.Below.{first-below-passes}
+use Rattle.indexed.proofs.Below.{first-below-at, first-below-passes}
 use Rattle.record6250.proofs.Fitting.{refused-none, group-fits}
-use Rattle.record6250.proofs.FittingGroup.{group-complete}
+use Rattle.record6250.proofs.FittingGroup.{length-rightBytes, group-complete, corrected-fits}
 use Rattle.record6250.proofs.Reading.{words-below}
-use Rattle.record6250.proofs.Relied.{relied-many, pointed-few}
+use Rattle.record6250.proofs.Relied.{relied-many, pointed-many, pointed-few}
 use Rattle.answer.proofs.Apart.{not-both, same-number, same-place}
 
 -- a judgement, by the number of its reason
@@ -112,7 +112,7 @@ module _ (backward : Bool) (words maps : List ℕ) where
         )
 
     pub none-refused : (g : ℕ) → judgedAnswer backward words maps ≡ refused 5 g
-        → (g < length maps) × (length (tracksPointed g) ≤ 2) × ((info : List ℕ) → BytesFit g info → ⊥) × ((h : ℕ) → h < g → SomeFit h)
+        → (g < length maps) × (length (tracksPointed g) ≤ 1) × ((info : List ℕ) → BytesFit g info → ⊥) × ((h : ℕ) → h < g → SomeFit h)
     unfolding judgement judgedGroup
     none-refused g e =
         let c = unfit-at 5 g e (λ q. omega arith) in
@@ -123,6 +123,58 @@ module _ (backward : Bool) (words maps : List ℕ) where
           none-fit g (c .0) none,
           λ h b. some-fit h (omega arith) (omega (arith, c .1)),
         )
+
+    -- and back: the first group that nothing fits is told, by its reason
+    some-corrected : (g : ℕ) → g < length maps → SomeFit g → isCorrected (judgement backward words maps g) ≡ true
+    unfolding judgement FitsGroup isCorrected
+    some-corrected g h (info, f) =
+        ap isCorrected
+        (group-complete (readGroup backward words maps g) (readMap backward words maps g) (words-below backward words maps passes g h) info (f .1)
+        (f .2))
+
+    told-first : (g : ℕ) → g < length maps → ((h : ℕ) → h < g → SomeFit h) → isCorrected (judgement backward words maps g) ≡ false
+        → judgedAnswer backward words maps ≡ refusedFor (reasonOf (judgement backward words maps g)) g
+    unfolding firstUnfit
+    told-first g h before unfit = by (cases backward words maps)
+      where
+        is : firstUnfit backward words maps ≡ g
+        is =
+            first-below-at (length maps) (λ g. not (isCorrected (judgement backward words maps g))) g h
+            (λ k b. ap not (some-corrected k (omega arith) (before k b))) (ap not unfit)
+
+        by : ThreeCases backward words maps (judgedAnswer backward words maps)
+            → judgedAnswer backward words maps ≡ refusedFor (reasonOf (judgement backward words maps g)) g
+        by (inl c) = c .1 ∙ ap (λ (k : ℕ). refusedFor (reasonOf (judgement backward words maps k)) k) is
+        by (inr (inl c)) = absurd (omega (arith, is))
+        by (inr (inr c)) = absurd (omega (arith, is))
+
+    pub refused-by-many : (g : ℕ) → g < length maps → 3 ≤ length (tracksPointed g) → ((h : ℕ) → h < g → SomeFit h)
+        → judgedAnswer backward words maps ≡ refused 4 g
+    unfolding judgement judgedGroup isCorrected reasonOf
+    refused-by-many g h many before =
+        let is : judgement backward words maps g ≡ manyPointed =
+        many-nine _ (relied (readGroup backward words maps g) (readMap backward words maps g))
+        (pointed-many (readGroup backward words maps g) (readMap backward words maps g) many) in
+        told-first g h before (ap isCorrected is) ∙ ap (λ (j : Judgement). refusedFor (reasonOf j) g) is
+
+    pub refused-by-none : (g : ℕ) → g < length maps → length (tracksPointed g) ≤ 2 → ((info : List ℕ) → BytesFit g info → ⊥)
+        → ((h : ℕ) → h < g → SomeFit h) → judgedAnswer backward words maps ≡ refused 5 g
+    unfolding judgement judgedGroup FitsGroup isCorrected reasonOf
+    refused-by-none g h few none before = by (judgement backward words maps g) refl
+      where
+        by : (j : Judgement) → judgement backward words maps g ≡ j → judgedAnswer backward words maps ≡ refused 5 g
+        by (corrected u) e =
+            let fits =
+            corrected-fits (readGroup backward words maps g) (readMap backward words maps g) (words-below backward words maps passes g h) (ap isCorrected e) in
+            absurd (none (rightBytes (judgement backward words maps g)) (length-rightBytes (judgement backward words maps g), fits .0, fits .1))
+        by manyPointed e =
+            absurd
+            (omega (
+              arith,
+              relied-many (readGroup backward words maps g) (readMap backward words maps g)
+                  (nine-many _ (relied (readGroup backward words maps g) (readMap backward words maps g)) e),
+            ))
+        by noGroup e = told-first g h before (ap isCorrected e) ∙ ap (λ (j : Judgement). refusedFor (reasonOf j) g) e
 
     pub padding-refused : (p : ℕ) → judgedAnswer backward words maps ≡ refused 6 p
         → (p ≡ 0) × ((g : ℕ) → g < length maps → SomeFit g) × ((bytes : List ℕ) → Fits backward words maps bytes → ⊥)

@@ -1,23 +1,29 @@
--- The tracks that fitting relies on: a track that is none of them has a legal word, none are where nothing is pointed, and there are three
--- or more exactly where three or more are pointed.
+-- The tracks that fitting relies on, by whether just one track is pointed, by the drive only. A track that is none of them has a legal
+-- word, none are where nothing is pointed, and there are three or more exactly where three or more are pointed.
 -- Assumes nothing.
-use mathlib.Core.Path.{_≡_, sym, ap, subst, _∙_}
+use mathlib.Core.Path.{_≡_, refl, sym, ap, subst, _∙_}
+use mathlib.Core.Bool.{Bool, true, false, cond}
 use mathlib.Core.List.{List}
 use mathlib.Core.Logic.{_⊎_, inl, inr}
 use Prim.Native.Nat.{ℕ, _<_, _≤_, _^_}
 use native.Mathlib.Omega.{arith}
+use borrow.Author.Tests.{eqb-true}
 use lib.Bits.{bitOr, or-lt}
+use lib.Dec.{eqb}
 use lib.ListN.{length, getD}
 use Rattle.indexed.specs.List.{tabulate, tabulateFrom}
 use Rattle.indexed.proofs.Tabulate.{tabulate-same}
+use Rattle.indexed.proofs.Test.{both-true}
 use Rattle.register.specs.Bit.{bit, ofBits}
 use Rattle.register.proofs.Bit.{bit-lt}
+use Rattle.register.proofs.Expand.{bit-of-zero}
 use Rattle.register.proofs.Xor.{digit}
 use Rattle.register.proofs.Ones.{bit-or, bit-of-tabulate, tabulated-lt}
 use Rattle.group_code.specs.Word.{illegality}
 use Rattle.group_code.proofs.Words.{illegality-lt}
 use Rattle.rectangular.specs.Correction.{pointedTracks}
-use Rattle.record6250.specs.Group.{illegalMap, pointed, reliedOn, relied}
+use Rattle.rectangular.proofs.Pointed.{none-pointed}
+use Rattle.record6250.specs.Group.{illegalMap, pointed, onePointer, reliedOn, relied}
 
 -- of two digits, if none is 1 the second is 0
 second-zero : (a b : ℕ) → (a ≡ 0) ⊎ (a ≡ 1) → (b ≡ 0) ⊎ (b ≡ 1) → bitOr a b ≡ 0 → b ≡ 0
@@ -26,35 +32,86 @@ second-zero a b (inl p) (inr q) e = ap (λ (x : ℕ). bitOr x b) (sym p) ∙ e
 second-zero a b (inr p) (inr q) e =
     let z : bitOr 1 1 ≡ 0 = subst (λ (y : ℕ). bitOr 1 y ≡ 0) q (subst (λ (x : ℕ). bitOr x b ≡ 0) p e) in absurd (omega arith)
 
+-- ---- the map of illegal words
+
 pub illegal-lt : (words : List ℕ) → illegalMap words < 2 ^ 9
 unfolding illegalMap
 illegal-lt words = tabulated-lt 9 _ (λ k h. illegality-lt (getD words k 0))
 
--- nine words that are legal, with no track pointed by the drive
-pub none-relied : (words : List ℕ) → ((k : ℕ) → k < 9 → illegality (getD words k 0) ≡ 0) → relied words 0 ≡ 0
-unfolding relied reliedOn illegalMap ofBits tabulate tabulateFrom
-none-relied words legal = ap ofBits (tabulate-same 9 (λ k. illegality (getD words k 0)) (λ k. 0) legal)
+pub illegal-bit : (words : List ℕ) (k : ℕ) → k < 9 → bit k (illegalMap words) ≡ illegality (getD words k 0)
+unfolding illegalMap
+illegal-bit words k h = bit-of-tabulate 9 (λ k. illegality (getD words k 0)) (λ k h. illegality-lt (getD words k 0)) k h
+
+pub none-illegal : (words : List ℕ) → ((k : ℕ) → k < 9 → illegality (getD words k 0) ≡ 0) → illegalMap words ≡ 0
+unfolding illegalMap ofBits tabulate tabulateFrom
+none-illegal words legal = ap ofBits (tabulate-same 9 (λ k. illegality (getD words k 0)) (λ k. 0) legal)
+
+-- ---- the tracks relied on
+
+-- no word is illegal, and no track is pointed by the drive
+pub none-relied : (words : List ℕ) → illegalMap words ≡ 0 → relied words 0 ≡ 0
+unfolding relied reliedOn
+none-relied words legal = ap (reliedOn 0) legal ∙ by (onePointer 0 0)
+  where
+    by : (b : Bool) → _≡_ {A = ℕ} (cond b 0 0) 0
+    by true = refl
+    by false = refl
 
 module _ (words : List ℕ) (pointers : ℕ) where
-  pub relied-lt : pointers < 2 ^ 9 → relied words pointers < 2 ^ 9
+  abbrev pub isOne : Bool
+  isOne = onePointer pointers (illegalMap words)
+
+  -- a property of the tracks relied on, by the two cases
+  relied-by : (P : ℕ → Type 0) → (isOne ≡ true → P 0) → (isOne ≡ false → P (pointed words pointers)) → P (relied words pointers)
+  unfolding relied reliedOn pointed
+  relied-by P one other = by isOne refl
+    where
+      by : (b : Bool) → isOne ≡ b → P (cond b 0 (bitOr pointers (illegalMap words)))
+      by true e = one e
+      by false e = other e
+
+  -- what is so where just one track is pointed, by the drive only
+  pub one-legal : isOne ≡ true → illegalMap words ≡ 0
+  unfolding onePointer
+  one-legal e = eqb-true _ _ (both-true _ (eqb (length (pointedTracks 9 (bitOr pointers (illegalMap words)))) 1) e .0)
+
+  pub one-pointed : isOne ≡ true → length (pointedTracks 9 (pointed words pointers)) ≡ 1
+  unfolding onePointer pointed
+  one-pointed e = eqb-true _ _ (both-true (eqb (illegalMap words) 0) _ e .1)
+
+  pub one-relied : isOne ≡ true → relied words pointers ≡ 0
   unfolding relied reliedOn
-  relied-lt h = or-lt 9 pointers (illegalMap words) h (illegal-lt words)
+  one-relied e = ap (λ (b : Bool). cond b 0 (bitOr pointers (illegalMap words))) e
+
+  -- elsewhere the tracks relied on are those that are pointed
+  pub others-relied : isOne ≡ false → relied words pointers ≡ pointed words pointers
+  unfolding relied reliedOn pointed
+  others-relied e = ap (λ (b : Bool). cond b 0 (bitOr pointers (illegalMap words))) e
+
+  pub relied-lt : pointers < 2 ^ 9 → relied words pointers < 2 ^ 9
+  unfolding pointed
+  relied-lt h = relied-by (λ (m : ℕ). m < 2 ^ 9) (λ e. omega arith) (λ e. or-lt 9 pointers (illegalMap words) h (illegal-lt words))
 
   pub unrelied-legal : (k : ℕ) → k < 9 → bit k (relied words pointers) ≡ 0 → illegality (getD words k 0) ≡ 0
-  unfolding relied reliedOn illegalMap
-  unrelied-legal k h z =
-      sym (bit-of-tabulate 9 (λ k. illegality (getD words k 0)) (λ k h. illegality-lt (getD words k 0)) k h)
+  unfolding pointed
+  unrelied-legal k h =
+      relied-by (λ (m : ℕ). bit k m ≡ 0 → illegality (getD words k 0) ≡ 0)
+      (λ e z. sym (illegal-bit words k h) ∙ ap (bit k) (one-legal e) ∙ bit-of-zero k)
+      (λ e z. sym (illegal-bit words k h)
       ∙ second-zero (bit k pointers) (bit k (illegalMap words)) (digit (bit k pointers) (bit-lt k pointers))
-      (digit (bit k (illegalMap words)) (bit-lt k (illegalMap words))) (sym (bit-or k pointers (illegalMap words)) ∙ z)
+      (digit (bit k (illegalMap words)) (bit-lt k (illegalMap words))) (sym (bit-or k pointers (illegalMap words)) ∙ z))
 
-  pub relied-many : 3 ≤ length (pointedTracks 9 (relied words pointers)) → 3 ≤ length (pointedTracks 9 (pointed words pointers))
-  unfolding relied reliedOn pointed
-  relied-many h = h
+  -- how many there are
+  abbrev many : ℕ → ℕ
+  many m = length (pointedTracks 9 m)
 
-  pub pointed-many : 3 ≤ length (pointedTracks 9 (pointed words pointers)) → 3 ≤ length (pointedTracks 9 (relied words pointers))
-  unfolding relied reliedOn pointed
-  pointed-many h = h
+  pub relied-many : 3 ≤ many (relied words pointers) → 3 ≤ many (pointed words pointers)
+  relied-many =
+      relied-by (λ (m : ℕ). 3 ≤ many m → 3 ≤ many (pointed words pointers)) (λ e h. absurd (omega (arith, ap length (none-pointed 9)))) (λ e h. h)
 
-  pub pointed-few : length (pointedTracks 9 (relied words pointers)) ≤ 1 → length (pointedTracks 9 (pointed words pointers)) ≤ 2
-  unfolding relied reliedOn pointed
-  pointed-few h = omega arith
+  pub pointed-many : 3 ≤ many (pointed words pointers) → 3 ≤ many (relied words pointers)
+  pointed-many h = relied-by (λ (m : ℕ). 3 ≤ many m) (λ e. absurd (omega (arith, one-pointed e))) (λ e. h)
+
+  pub pointed-few : many (relied words pointers) ≤ 1 → many (pointed words pointers) ≤ 1
+  pointed-few =
+      relied-by (λ (m : ℕ). many m ≤ 1 → many (pointed words pointers) ≤ 1) (λ e h. omega (arith, one-pointed e)) (λ e h. h)

@@ -12,17 +12,16 @@ use lib.Dec.{ltb}
 use lib.ListN.{length, getD, replicate, length-replicate, getD-replicate}
 use lib.Seq.{ext-getD}
 use Rattle.answer.specs.Answer.{delivered}
-use Rattle.indexed.specs.List.{tabulate, tabulateFrom, below, keep}
 use Rattle.slices.specs.Turned.{turnedPlace}
 use Rattle.indexed.proofs.Blocks.{blocks-same}
 use Rattle.indexed.proofs.Differ.{differences-none, equal-of-no-differences}
 use Rattle.indexed.proofs.Total.{total-none, none-of-total}
-use Rattle.register.specs.Bit.{bit}
 use Rattle.group_code.specs.Word.{illegality}
 use Rattle.rectangular.specs.Constants.{feedback, tracks, numbersPerGroup}
 use Rattle.rectangular.specs.Correction.{pointedTracks, Allowed}
 use Rattle.rectangular.specs.Group.{track}
 use Rattle.rectangular.proofs.Equations.{Below}
+use Rattle.rectangular.proofs.Pointed.{none-pointed}
 use Rattle.record6250.specs.Fits.{IsData, Passes, FitsGroup, Fits, wordsChanged}
 use Rattle.record6250.specs.Group.{relied}
 use Rattle.record6250.specs.Picture.{groupLent, groupRead, mapRead}
@@ -37,7 +36,7 @@ use Rattle.record6250.proofs.Padding.{body-below}
 use Rattle.record6250.proofs.Picture.{length-lent, length-read, lent-joined}
 use Rattle.record6250.proofs.Reading.{words-long, none-stray-lent, groupBytes-bounded}
 use Rattle.record6250.proofs.Record.{length-record, written-lent, written-group}
-use Rattle.record6250.proofs.Relied.{none-relied}
+use Rattle.record6250.proofs.Relied.{none-illegal, none-relied}
 use Rattle.record6250.proofs.Tape.{numbers-back, written-not-stray}
 use Rattle.record6250.proofs.Track.{word-on-lt, word-on-legal}
 
@@ -50,16 +49,16 @@ module _ (info : List ℕ) (small : Below 8 info) where
   written-unpointed : relied (groupWords info) 0 ≡ 0
   written-unpointed =
       none-relied (groupWords info)
-      (λ k h. ap illegality (group-word info k h) ∙ word-on-legal k (track 8 feedback info k) (track-lt k h))
+      (none-illegal (groupWords info) (λ k h. ap illegality (group-word info k h) ∙ word-on-legal k (track 8 feedback info k) (track-lt k h)))
 
   none-written : strayNumbers (numbersFrom (groupWords info)) ≡ false
   none-written = written-not-stray (groupWords info) (λ k h. rw (group-word info k h) (word-on-lt k (track 8 feedback info k) (track-lt k h)))
 
 -- with no track pointed, a group fits itself
 itself-allowed : (pointers : ℕ) (v : ℕ → ℕ) → pointers ≡ 0 → Allowed 9 pointers v v
-unfolding Allowed pointedTracks keep below tabulate tabulateFrom bit
+unfolding Allowed
 itself-allowed pointers v e =
-    inl (ap (λ (p : ℕ). length (pointedTracks 9 p)) e, omega (arith, differences-none v v 9 (λ k h. refl)))
+    inl (ap (λ (p : ℕ). length (pointedTracks 9 p)) e ∙ ap length (none-pointed 9), omega (arith, differences-none v v 9 (λ k h. refl)))
 
 -- ---- the written record, read forward without damage
 

@@ -27,7 +27,8 @@ module _ (backward : Bool) (words maps : List ℕ) where
     pub no-stray : firstStray backward words maps ≡ length maps
 
   -- nine words fit group g of the reading: "in each group only the pointed tracks differ, two at most, or, with none pointed, one
-  -- track at most", where a track differs if its word does
+  -- track at most", where a track differs if its word does; and "where just one track is pointed, by the drive only, its word being legal,
+  -- one track anywhere may differ" (document 02, "2.3")
   unfoldable pub FitsGroup : ℕ → List ℕ → Type 0
   FitsGroup g right =
       Allowed tracks (relied (readGroup backward words maps g) (readMap backward words maps g)) (λ k. getD (readGroup backward words maps g) k 0)

@@ -1,5 +1,5 @@
 -- The bench readings that document 01 marks with a star, as one table, and logs beside it; word 8 is document 02's ("2.2"), which adds the last
--- 6250 reading. Each call is lent an output of ten numbers, so that a row also says what is kept: behind a result, and after a refusal all of it.
+-- 6250 reading, and so is the answer where one is wrong and another pointed ("2.3"). Each call is lent an output of ten numbers, so that a row also says what is kept: behind a result, and after a refusal all of it.
 -- Assumes nothing.
 use Prim.Native.Nat.{ℕ}
 use mathlib.Core.Bool.{true, false}
@@ -79,7 +79,7 @@ readings =
     ∷ group6250 (0 ∷ 827 ∷ 818 ∷ 827 ∷ 825 ∷ 825 ∷ 825 ∷ 827 ∷ 750 ∷ []) 0 (delivered (1 ∷ 1 ∷ [])) (0x01 ∷ [])
     ∷ group6250 (0 ∷ 0 ∷ 0 ∷ 827 ∷ 825 ∷ 825 ∷ 825 ∷ 827 ∷ 750 ∷ []) 0 (refused 4 0) []
     ∷ group6250 (850 ∷ 827 ∷ 818 ∷ 827 ∷ 825 ∷ 825 ∷ 825 ∷ 827 ∷ 750 ∷ []) 8 (delivered (1 ∷ 0 ∷ [])) (0x01 ∷ [])
-    ∷ group6250 (825 ∷ 827 ∷ 818 ∷ 827 ∷ 825 ∷ 825 ∷ 825 ∷ 827 ∷ 750 ∷ []) 8 (refused 5 0) []
+    ∷ group6250 (825 ∷ 827 ∷ 818 ∷ 827 ∷ 825 ∷ 825 ∷ 825 ∷ 827 ∷ 750 ∷ []) 8 (delivered (1 ∷ 1 ∷ [])) (0x01 ∷ [])
     ∷ group6250 (818 ∷ 819 ∷ 819 ∷ 827 ∷ 825 ∷ 825 ∷ 825 ∷ 825 ∷ 510 ∷ []) 0 (refused 6 0) []
     ∷ group6250 (825 ∷ 818 ∷ 819 ∷ 827 ∷ 825 ∷ 825 ∷ 825 ∷ 825 ∷ 825 ∷ []) 0 (delivered (0 ∷ 1 ∷ [])) []
     ∷ characters800 (131 ∷ 468 ∷ 148 ∷ 248 ∷ 202 ∷ 510 ∷ 47 ∷ []) (delivered (5 ∷ 5 ∷ 1 ∷ [])) (131 ∷ 212 ∷ 148 ∷ 248 ∷ 234 ∷ [])
@@ -105,6 +105,7 @@ logs =
     logRows (825 ∷ 827 ∷ 818 ∷ 827 ∷ 825 ∷ 825 ∷ 825 ∷ 827 ∷ 750 ∷ []) 0 (delivered (3 ∷ [])) (1 ∷ 1 ∷ 0 ∷ [])
     ++ logRows (825 ∷ 827 ∷ 818 ∷ 827 ∷ 825 ∷ 825 ∷ 825 ∷ 827 ∷ 825 ∷ []) 257 (delivered (3 ∷ [])) (1 ∷ 1 ∷ 1 ∷ [])
     ++ logRows (850 ∷ 827 ∷ 818 ∷ 827 ∷ 825 ∷ 825 ∷ 825 ∷ 827 ∷ 750 ∷ []) 8 (delivered (1 ∷ [])) (0 ∷ [])
+    ++ logRows (825 ∷ 827 ∷ 818 ∷ 827 ∷ 825 ∷ 825 ∷ 825 ∷ 827 ∷ 750 ∷ []) 8 (delivered (3 ∷ [])) (1 ∷ 1 ∷ 0 ∷ [])
     ++ logRows (825 ∷ 827 ∷ 818 ∷ 827 ∷ 825 ∷ 825 ∷ 825 ∷ 827 ∷ 825 ∷ []) 0 (refused 5 0) []
     ++ logRows (818 ∷ 819 ∷ 819 ∷ 827 ∷ 825 ∷ 825 ∷ 825 ∷ 825 ∷ 510 ∷ []) 0 (refused 6 0) []
     ++ logRows (825 ∷ 818 ∷ 819 ∷ 827 ∷ 825 ∷ 825 ∷ 825 ∷ 825 ∷ 825 ∷ []) 0 (delivered (3 ∷ [])) (1 ∷ 0 ∷ 1 ∷ [])

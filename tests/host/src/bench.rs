@@ -1,6 +1,6 @@
 //! The bench readings of document 01 that are not in the proved table, what its section on reading backward says of a
-//! stray word, and what becomes of records with the parity that they had before request 2.2 of document 02. The answers
-//! stand here as the documents have them.
+//! stray word, what becomes of records with the parity that they had before request 2.2 of document 02, and of groups with one
+//! wrong track too many under its request 2.3. The answers stand here as the documents have them.
 
 use crate::damage6250::make_even;
 use crate::library::{self, Answer, Direction};
@@ -75,6 +75,27 @@ fn even_and_one_more(data: [u8; 7]) -> [usize; 2] {
     counts
 }
 
+/// Two wrong tracks, of which the drive points at the first: how many of the pairs of legal words that they can have are refused
+/// by 5, and how many are delivered with other data.
+fn two_wrong_one_pointed(data: [u8; 7], pointed: usize, other: usize) -> [usize; 2] {
+    let mut words = written(&data);
+    let wrong = |right: u16| (0..=255).map(word).filter(move |&word| word != right);
+    let (wrong_pointed, wrong_other) = (wrong(words[pointed]), wrong(words[other]));
+    let mut counts = [0; 2];
+    for first in wrong_pointed {
+        for second in wrong_other.clone() {
+            (words[pointed], words[other]) = (first, second);
+            let mut output = [LENT_BYTE; 13];
+            match library::read6250(Direction::Forward, &words, &[1 << pointed, 0], &mut output) {
+                Answer::Refused(5, 0) => counts[0] += 1,
+                Answer::Delivered(_) if output[..7] != data => counts[1] += 1,
+                answer => panic!("neither refused by 5 nor delivered with other data: {answer:?}"),
+            }
+        }
+    }
+    counts
+}
+
 /// Whether characters are answered so in both directions, with these data in front of the output.
 fn reads800(characters: &[u16], want: Answer, data: &[u8]) -> bool {
     let space = characters.len();
@@ -133,5 +154,9 @@ pub fn readings6250() -> Tried {
     }
     let counts = even_and_one_more([131, 212, 148, 248, 234, 1, 2]);
     tried.expect("even parity and one more wrong track: 1,984 refused by 5, 56 another group", counts == [1984, 56]);
+    for (pointed, other) in [(0, 1), (5, 2), (3, 8), (8, 7)] {
+        let counts = two_wrong_one_pointed([131, 212, 148, 248, 234, 1, 2], pointed, other);
+        tried.expect("two wrong, one of them pointed: 63,240 refused by 5, 1,785 another group", counts == [63240, 1785]);
+    }
     tried
 }

@@ -236,6 +236,43 @@ pub fn every_number(direction: Direction) -> Tried {
     tried
 }
 
+/// Every track pointed by the drive against every track wrong, by every word of ten bits, in the last group of seeded
+/// records: that track alone, which must be corrected, with any other one, and with the pointed one.
+pub fn one_pointer(direction: Direction) -> Tried {
+    let mut seeded = Seeded(23 + matches!(direction, Direction::Backward) as u64);
+    let mut tried = Tried::default();
+    let (mut answers, mut another) = ([0; 7], 0);
+    let tracks = || (0..9).flat_map(|pointed| (0..9).map(move |wrong| (pointed, wrong)));
+    for ((pointed, wrong), number) in tracks().flat_map(|pair| (0..1024).map(move |number| (pair, number))) {
+        for way in 0..3 {
+            let length = seeded.index(21);
+            let data: Vec<u8> = (0..length).map(|_| seeded.next() as u8).collect();
+            let groups = length / 7 + 1;
+            let mut reading = Reading { words: words_of_body(&body(&data)), maps: vec![0; groups] };
+            let group = &mut reading.words[9 * groups - 9..];
+            let changed = group[wrong] != number;
+            group[wrong] = number;
+            match way {
+                0 => {}
+                1 => group[seeded.index(9)] = word(seeded.next() as u8),
+                _ => group[pointed] = word(seeded.next() as u8),
+            }
+            reading.maps[groups - 1] = 1 << pointed;
+            let answer = compare(&mut tried, direction, reading, 7 * groups);
+            answers[answer.number()] += 1;
+            if way == 0 {
+                another += usize::from(changed && pointed != wrong && byte_of(number).is_some());
+                if answer != Answer::Delivered(vec![length as u64, u64::from(changed)]) {
+                    tried.wrong.push(format!("track {pointed} pointed, track {wrong} made {number}: {answer:?}"));
+                }
+            }
+        }
+    }
+    tried.tell_answers(&answers, &[0, 5]);
+    tried.remarks.push(format!("one legal word wrong on another track than the pointed one: {another}"));
+    tried
+}
+
 pub fn random_readings(direction: Direction) -> Tried {
     let mut seeded = Seeded(matches!(direction, Direction::Backward) as u64);
     let mut tried = Tried::default();

@@ -26,8 +26,8 @@ fn random_data(seeded: &mut Seeded, case: usize) -> Vec<u8> {
     (0..length).map(|_| seeded.next() as u8).collect()
 }
 
-/// Changes words in some groups so that a record still fits: one track that nobody points, or up to two that are pointed. A
-/// pointed track may stay right.
+/// Changes words in some groups so that a record still fits: one track, with none pointed, with itself or with another, or up
+/// to two that are pointed. A pointed track may stay right.
 fn weaken(seeded: &mut Seeded, reading: &mut Reading) {
     let often = 1 + seeded.below(6);
     for (words, map) in reading.words.chunks_exact_mut(9).zip(&mut reading.maps) {
@@ -37,7 +37,8 @@ fn weaken(seeded: &mut Seeded, reading: &mut Reading) {
         let tracks = shuffled(seeded);
         let pointed = seeded.index(3);
         *map |= map_of(&tracks[..pointed]);
-        for &track in &tracks[..[1, pointed, seeded.index(pointed + 1)][pointed]] {
+        let first = if pointed == 1 { seeded.index(2) } else { 0 };
+        for &track in &tracks[first..first + [1, 1, seeded.index(3)][pointed]] {
             words[track] = if seeded.once_in(2) { word(seeded.next() as u8) } else { words[track] ^ 1 << seeded.below(10) };
         }
     }
@@ -130,15 +131,16 @@ pub fn random_readings(direction: Direction) -> Tried {
     tried
 }
 
-/// Every word in every track of the last of nine groups, whose bit is the first of the second byte, unpointed and pointed.
+/// Every word in every track of the last of nine groups, whose bit is the first of the second byte, with no track pointed and
+/// with each.
 pub fn every_word(direction: Direction) -> Tried {
     let (mut tried, mut seen) = (Tried::default(), Seen::default());
     let record = written(&[212; 62]);
     for (track, word) in (0..9).flat_map(|track| (0..1024).map(move |word| (track, word))) {
-        for pointed in [0, 1 << track] {
+        for pointers in [0, 1, 2, 4, 8, 16, 32, 64, 128, 256] {
             let mut reading = Reading { words: record.clone(), maps: vec![0; 9] };
             reading.words[9 * 8 + track] = word;
-            reading.maps[8] = pointed;
+            reading.maps[8] = pointers;
             compare(&mut tried, &mut seen, direction, reading, sense_log::space(9));
         }
     }

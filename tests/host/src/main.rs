@@ -177,6 +177,8 @@ fn suites_at_6250() -> Vec<Suite> {
         ("seeded writes at 6250", random_writes()),
         ("every number in a group at 6250, forward", damage6250::every_number(Direction::Forward)),
         ("every number in a group at 6250, backward", damage6250::every_number(Direction::Backward)),
+        ("one pointer against one wrong track at 6250, forward", damage6250::one_pointer(Direction::Forward)),
+        ("one pointer against one wrong track at 6250, backward", damage6250::one_pointer(Direction::Backward)),
         ("seeded readings at 6250, forward", damage6250::random_readings(Direction::Forward)),
         ("seeded readings at 6250, backward", damage6250::random_readings(Direction::Backward)),
         ("the listing program", programs::listing()),

@@ -38,8 +38,8 @@ fn replaced(read: &[u8; 9], track: usize, value: u8) -> [u8; 9] {
     candidate
 }
 
-/// The groups of the code that differ from what was read in one track at most: 9 × 255 + 1 candidates.
-fn unpointed(read: &[u8; 9]) -> Vec<[u8; 9]> {
+/// The groups of the code that differ from what was read in one track at most, anywhere: 9 × 255 + 1 candidates.
+fn anywhere(read: &[u8; 9]) -> Vec<[u8; 9]> {
     if is_group(read) {
         // a group of the code is its own only fit: two groups differ in three tracks or more
         return vec![*read];
@@ -80,8 +80,9 @@ pub fn fitting(words: &[u16], map: u16) -> Result<[u8; 9], u16> {
         read[track] = byte.unwrap_or(0);
     }
     let fits = match pointed[..] {
-        [] => unpointed(&read),
-        [track] => pointed_once(&read, track),
+        [track] if byte_of(words[track]).is_none() => pointed_once(&read, track),
+        // one that the drive alone points, its word being legal, need not be the wrong one (document 02, request 2.3)
+        [] | [_] => anywhere(&read),
         [first, second] => pointed_twice(&read, first, second),
         _ => return Err(4),
     };

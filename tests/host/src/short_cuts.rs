@@ -12,10 +12,11 @@ use crate::{Seeded, Tried};
 
 /// The words of the groups that fit nine words under a map, tracks that may differ taking every value.
 fn every_group(words: &[u16], map: u16) -> Vec<Vec<u16>> {
-    let pointed: Vec<usize> = (0..9).filter(|&track| map >> track & 1 == 1 || byte_of(words[track]).is_none()).collect();
-    let choices = match pointed[..] {
-        [] => (0..9).map(|track| vec![track]).collect(),
-        [_] | [_, _] => vec![pointed],
+    let illegal = |track: usize| byte_of(words[track]).is_none();
+    let pointed: Vec<usize> = (0..9).filter(|&track| map >> track & 1 == 1 || illegal(track)).collect();
+    let choices = match pointed.len() {
+        1 | 2 if pointed.len() == 2 || illegal(pointed[0]) => vec![pointed],
+        0 | 1 => (0..9).map(|track| vec![track]).collect(),
         _ => vec![],
     };
     let mut fits = vec![];

@@ -9,9 +9,8 @@ use Rattle.rectangular.specs.Correction.{corrected}
 use Rattle.judge6250.specs.Told.{toldJudged, toldChanged, changedBy}
 use Rattle.group6250.specs.Packed.{valuesOf}
 use Rattle.record6250.specs.Group.{illegalMap, isCorrected}
-use Rattle.reading6250.proofs.GroupJudged.{lent-below, lent-group, value-at, relied-told, judgement-told, changed-told}
+use Rattle.reading6250.proofs.GroupJudged.{lent-below, lent-group, lent-map, value-at, pointed-lt, judgement-told, changed-told}
 use Rattle.record6250.proofs.Reading.{words-long, map-below}
-use Rattle.record6250.proofs.Relied.{relied-lt}
 use borrow.Author.Needs.{needs}
 use Rattle.reading6250.proofs.group.judge_group.Statement.{statement}
 use Rattle.reading6250.proofs.group.judge_group.Tie as tie
@@ -34,25 +33,23 @@ receive-requires c κs =
       start .pre .2,
     )
 
-mul-relied : tie.Need-mul-relied
-mul-relied c = search needs
+mul-pointed : tie.Need-mul-pointed
+mul-pointed c = search needs
 
-shared-slice-read-relied : tie.Need-shared-slice-read-relied
-shared-slice-read-relied c = search needs
-
-relied-requires : tie.Need-relied-requires
-relied-requires c κs = search needs
+shared-slice-read-pointed : tie.Need-shared-slice-read-pointed
+shared-slice-read-pointed c = search needs
 
 judge-requires : tie.Need-judge-requires
 judge-requires c κs =
-    let received = c .before .before .before .receive in
-    let place = c .before .before .before .before .turned-place in
-    let start = c .before .before .before .before .before .before .before .before in
+    let received = c .before .before .receive in
+    let place = c .before .before .before .turned-place in
+    let start = c .before .before .before .before .before .before .before in
     let words = now (start .args .words) in
     let maps = now (start .args .maps) in
     let b = start .args .backward in
-    rw (c .relied .ensures ∙ relied-told b words maps (start .args .g) (place .result) (place .ensures .0) _ _ (received .ensures .0) (received .ensures .1))
-    (relied-lt _ _ (map-below b words maps (start .pre .0) (start .args .g) (start .pre .1)))
+    let g = start .args .g in
+    pointed-lt b words maps g (place .result) (place .ensures .0) _ _ (received .ensures .0) (received .ensures .1)
+    (rw (lent-map b words maps g (place .result) (place .ensures .0)) (map-below b words maps (start .pre .0) g (start .pre .1)))
 
 enum-known-right : tie.Need-enum-known-right
 enum-known-right c = search needs
@@ -66,17 +63,17 @@ enum-told-2 c = search needs
 returns : tie.Need-returns
 unfolding changedBy
 returns c =
-    let judged = c .before .before .before .before .before .before .judge in
-    let at = c .before .before .before .before .before .before .before in
-    let received = at .before .before .before .receive in
-    let place = at .before .before .before .before .turned-place in
-    let start = at .before .before .before .before .before .before .before .before in
+    let judged = c .before .before .before .before .before .judge in
+    let at = c .before .before .before .before .before .before in
+    let received = at .before .before .receive in
+    let place = at .before .before .before .turned-place in
+    let start = at .before .before .before .before .before .before .before in
     let words = now (start .args .words) in
     let maps = now (start .args .maps) in
     let b = start .args .backward in
     let g = start .args .g in
-    let right = c .before .before .before .before .right .given in
-    let fits = judgement-told b words maps g (place .result) (place .ensures .0) _ _ (received .ensures .0) (received .ensures .1) _ (at .relied .ensures) in
+    let right = c .before .before .before .right .given in
+    let fits = judgement-told b words maps g (place .result) (place .ensures .0) _ _ (received .ensures .0) (received .ensures .1) in
     let told : corrected (valuesOf (right .0 .0 .group)) ≡ _ = sym (ap toldJudged (right .1)) ∙ judged .ensures .0 ∙ fits in (
       told,
       λ q.
@@ -91,18 +88,18 @@ returns-2 : tie.Need-returns-2
 unfolding isCorrected
 returns-2 c =
     let at = c .before .before .before in
-    let received = at .before .before .before .receive in
-    let place = at .before .before .before .before .turned-place in
-    let fits = judgement-told _ _ _ _ _ (place .ensures .0) _ _ (received .ensures .0) (received .ensures .1) _ (at .relied .ensures) in
+    let received = at .before .before .receive in
+    let place = at .before .before .before .turned-place in
+    let fits = judgement-told _ _ _ _ _ (place .ensures .0) _ _ (received .ensures .0) (received .ensures .1) in
     (sym (ap toldJudged (c .enum-told .given .1)) ∙ c .before .before .judge .ensures .0 ∙ fits, λ q. absurd (false≢true q))
 
 returns-3 : tie.Need-returns-3
 unfolding isCorrected
 returns-3 c =
     let at = c .before .before .before in
-    let received = at .before .before .before .receive in
-    let place = at .before .before .before .before .turned-place in
-    let fits = judgement-told _ _ _ _ _ (place .ensures .0) _ _ (received .ensures .0) (received .ensures .1) _ (at .relied .ensures) in
+    let received = at .before .before .receive in
+    let place = at .before .before .before .turned-place in
+    let fits = judgement-told _ _ _ _ _ (place .ensures .0) _ _ (received .ensures .0) (received .ensures .1) in
     (sym (ap toldJudged (c .enum-told2 .given .1)) ∙ c .before .before .judge .ensures .0 ∙ fits, λ q. absurd (false≢true q))
 
 pub judge-group-spec : {M : Type 1} → statement M
@@ -112,9 +109,8 @@ judge-group-spec =
     turned-place-requires
     mul-receive
     receive-requires
-    mul-relied
-    shared-slice-read-relied
-    relied-requires
+    mul-pointed
+    shared-slice-read-pointed
     judge-requires
     enum-known-right
     enum-told
