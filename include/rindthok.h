@@ -89,6 +89,10 @@ uint16_t rindthok_write6250(const uint8_t *bytes, size_t byte_count, uint16_t *w
  * 1; 3 if a word is above 1023 or a map above 511; 4 if a group has three or more tracks pointed, by its map or by an
  * illegal word, 5 if no group of the code fits it, with the first such group as place; 6 if the padding is not as a
  * writer leaves it. `size`, `changes` and `output` are then as they were.
+ * Of a group that fits, the pointed tracks alone may differ, two at most; one track anywhere may with none pointed, and
+ * with one that only its map points, its word being legal, since a drive may point at a healthy neighbour of the bad
+ * track. Two wrong tracks, of which the map points at one only, are refused or taken for another record, as two that
+ * nobody points at are.
  * A record whose track 8 has even parity, as it was written before document 02's request 2.2, reads with word 8 of
  * every group changed; with one more wrong track in a group it is refused or taken for another record. Exchange each
  * word 8 for the word of its byte's complement first. */
