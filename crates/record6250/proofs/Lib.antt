@@ -16,3 +16,4 @@ pub mod Refused
 pub mod Undamaged
 pub mod Backward
 pub mod AsBefore
+pub mod PointerLeftOut

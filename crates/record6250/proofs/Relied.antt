@@ -8,7 +8,7 @@ use mathlib.Core.Logic.{_⊎_, inl, inr}
 use Prim.Native.Nat.{ℕ, _<_, _≤_, _^_}
 use native.Mathlib.Omega.{arith}
 use borrow.Author.Tests.{eqb-true}
-use lib.Bits.{bitOr, or-lt}
+use lib.Bits.{bitOr}
 use lib.Dec.{eqb}
 use lib.ListN.{length, getD}
 use Rattle.indexed.specs.List.{tabulate, tabulateFrom}
@@ -87,10 +87,6 @@ module _ (words : List ℕ) (pointers : ℕ) where
   pub others-relied : isOne ≡ false → relied words pointers ≡ pointed words pointers
   unfolding relied reliedOn pointed
   others-relied e = ap (λ (b : Bool). cond b 0 (bitOr pointers (illegalMap words))) e
-
-  pub relied-lt : pointers < 2 ^ 9 → relied words pointers < 2 ^ 9
-  unfolding pointed
-  relied-lt h = relied-by (λ (m : ℕ). m < 2 ^ 9) (λ e. omega arith) (λ e. or-lt 9 pointers (illegalMap words) h (illegal-lt words))
 
   pub unrelied-legal : (k : ℕ) → k < 9 → bit k (relied words pointers) ≡ 0 → illegality (getD words k 0) ≡ 0
   unfolding pointed

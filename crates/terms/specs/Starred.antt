@@ -1,5 +1,6 @@
 -- The bench readings that document 01 marks with a star, as one table, and logs beside it; word 8 is document 02's ("2.2"), which adds the last
--- 6250 reading, and so is the answer where one is wrong and another pointed ("2.3"). Each call is lent an output of ten numbers, so that a row also says what is kept: behind a result, and after a refusal all of it.
+-- 6250 reading, and so is the answer where one track is wrong and another pointed ("2.3"). Each call is lent an output of ten numbers, so that
+-- a row also says what is kept: behind a result, and after a refusal all of it.
 -- Assumes nothing.
 use Prim.Native.Nat.{ℕ}
 use mathlib.Core.Bool.{true, false}

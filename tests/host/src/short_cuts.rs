@@ -14,9 +14,9 @@ use crate::{Seeded, Tried};
 fn every_group(words: &[u16], map: u16) -> Vec<Vec<u16>> {
     let illegal = |track: usize| byte_of(words[track]).is_none();
     let pointed: Vec<usize> = (0..9).filter(|&track| map >> track & 1 == 1 || illegal(track)).collect();
-    let choices = match pointed.len() {
-        1 | 2 if pointed.len() == 2 || illegal(pointed[0]) => vec![pointed],
-        0 | 1 => (0..9).map(|track| vec![track]).collect(),
+    let choices = match pointed[..] {
+        [] | [_] if !pointed.iter().any(|&track| illegal(track)) => (0..9).map(|track| vec![track]).collect(),
+        [_] | [_, _] => vec![pointed],
         _ => vec![],
     };
     let mut fits = vec![];
