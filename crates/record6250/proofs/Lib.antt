@@ -7,6 +7,7 @@ pub mod Bounded
 pub mod Relied
 pub mod FittingGroup
 pub mod OddParity
+pub mod Alike
 pub mod WrongPointer
 pub mod Reading
 pub mod Cases
@@ -16,4 +17,3 @@ pub mod Refused
 pub mod Undamaged
 pub mod Backward
 pub mod AsBefore
-pub mod PointerLeftOut

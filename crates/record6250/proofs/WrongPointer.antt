@@ -24,7 +24,10 @@ use Rattle.rectangular.specs.Correction.{pointedTracks, Allowed, Judgement, cor
 use Rattle.rectangular.proofs.Correction.{nine-many, many-nine, nine-anywhere, allowed-anywhere}
 use Rattle.rectangular.proofs.Pointed.{pointed-lt, pointed-one, pointed-found, none-pointed}
 use Rattle.record6250.specs.Group.{illegalMap, pointed, onePointer, relied, judgedGroup}
+use Rattle.record6250.specs.Picture.{groupRead}
+use Rattle.record6250.specs.Read.{readGroup, readMap, judgement, readData, changedMaps, judgedAnswer}
 use Rattle.record6250.specs.Track.{valueOn}
+use Rattle.record6250.proofs.Alike.{same-answer, same-data, same-maps}
 use Rattle.record6250.proofs.Relied.{illegal-bit, none-illegal, none-relied, isOne, one-legal, one-pointed, one-relied, others-relied, relied-many, pointed-many}
 use Rattle.record6250.proofs.Track.{value-on-lt}
 
@@ -183,3 +186,34 @@ module _ (words : List ℕ) (pointers : ℕ) where
       by (corrected u) e = let z : corrected u ≡ noGroup = sym (still-corrected u e) ∙ n in z
       by manyPointed e = sym (told-many (nine-many values (pointed words pointers) e)) ∙ n
       by noGroup e = refl
+
+-- ---- the record
+
+-- a reading, and the same with some pointers left out, each of a group with just one pointed, legal track: once lengths, space and stray bits
+-- have passed, both are answered alike, with the same data and the same changed tracks
+module _ (backward : Bool) (words maps fewer : List ℕ) (as-many : length fewer ≡ length maps)
+    (left-out : (g : ℕ) → g < length maps
+    → (readMap backward words fewer g ≡ readMap backward words maps g)
+    ⊎ ((readMap backward words fewer g ≡ 0) × JustOne (readGroup backward words maps g) (readMap backward words maps g))) where
+  same-group : (g : ℕ) → g < length maps → readGroup backward words fewer g ≡ readGroup backward words maps g
+  unfolding readGroup
+  same-group g h = ap (λ (n : ℕ). groupRead backward n words g) as-many
+
+  same-judgement : (g : ℕ) → g < length maps → judgement backward words fewer g ≡ judgement backward words maps g
+  unfolding judgement
+  same-judgement g h = by (left-out g h)
+    where
+      by : (readMap backward words fewer g ≡ readMap backward words maps g)
+          ⊎ ((readMap backward words fewer g ≡ 0) × JustOne (readGroup backward words maps g) (readMap backward words maps g))
+          → judgement backward words fewer g ≡ judgement backward words maps g
+      by (inl e) = ap₂ judgedGroup (same-group g h) e
+      by (inr (e, one)) = ap₂ judgedGroup (same-group g h) e ∙ sym (as-if-unpointed _ _ one)
+
+  pub left-out-answer : judgedAnswer backward words fewer ≡ judgedAnswer backward words maps
+  left-out-answer = same-answer backward backward words maps words fewer as-many same-group same-judgement
+
+  pub left-out-data : readData backward words fewer ≡ readData backward words maps
+  left-out-data = same-data backward backward words maps words fewer as-many same-group same-judgement
+
+  pub left-out-changed : changedMaps backward words fewer ≡ changedMaps backward words maps
+  left-out-changed = same-maps backward backward words maps words fewer as-many same-group same-judgement
