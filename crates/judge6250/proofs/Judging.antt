@@ -1,7 +1,7 @@
 -- The errors as the code finds them: by a track that was searched for, and by counts of the map's bits.
 -- Assumes nothing.
 use mathlib.Core.Path.{_≡_, refl, sym, ap, ap₂, _∙_}
-use mathlib.Core.Bool.{Bool, true, false, cond, _&&_}
+use mathlib.Core.Bool.{Bool, true, false, cond}
 use mathlib.Core.List.{List, [], _∷_}
 use Prim.Native.Nat.{ℕ, _-_, _<_, _≤_}
 use native.Mathlib.Nat.{suc-ne-zero, suc-inj}
@@ -19,7 +19,6 @@ use Rattle.rectangular.specs.Constants.{feedback, exponent}
 use Rattle.rectangular.specs.Correction.{pointedTracks}
 use Rattle.rectangular.specs.Syndrome.{weighed, Errors, errorsIn, tooMany, unaccounted, firstAccounting, oneError, errorsOf}
 use Rattle.rectangular.proofs.Errors.{errors-too-many}
-use Rattle.judge6250.specs.Told.{reliedIn}
 
 -- ---- one error, by the index at which it was searched for
 
@@ -55,31 +54,6 @@ one-anywhere s1 s2 k found = by (ltb k 9) refl
         let h = ltb-true k 9 e in
         one-is s1 s2 (below 9) k (sym found) (omega (arith, length-below 9)) k (getD-below 9 k 0 h) _ refl
     by false e = let h = ltb-false k 9 e in one-none s1 s2 (below 9) k (sym found) (omega (arith, length-below 9))
-
--- ---- the pointed tracks that are relied on
-
-pub relied-none : (legal : Bool) → reliedIn legal 0 ≡ 0
-unfolding reliedIn
-relied-none legal = by (legal && eqb (length (pointedTracks 9 0)) 1)
-  where
-    by : (b : Bool) → _≡_ {A = ℕ} (cond b 0 0) 0
-    by true = refl
-    by false = refl
-
-module _ (m : ℕ) where
-  pub relied-single : length (pointedTracks 9 m) ≡ 1 → reliedIn true m ≡ 0
-  unfolding reliedIn
-  relied-single e = ap (λ (b : Bool). cond b 0 m) (eq-eqb _ 1 e)
-
-  -- an illegal word, or more than one
-  pub relied-certain : reliedIn false m ≡ m
-  unfolding reliedIn
-  relied-certain = refl
-
-  pub relied-others : (legal : Bool) → (length (pointedTracks 9 m) ≡ 1 → ⊥) → reliedIn legal m ≡ m
-  unfolding reliedIn
-  relied-others true e = ap (λ (b : Bool). cond b 0 m) (ne-eqb _ 1 e)
-  relied-others false e = refl
 
 -- ---- the map of pointed tracks: tests of every map
 

@@ -1,22 +1,17 @@
--- What the code is told of pointers, and what it tells of errors and of a judgement.
+-- What the code tells of errors and of a judgement.
 -- Assumes nothing.
 use Prim.Native.Nat.{ℕ, _^_}
-use mathlib.Core.Bool.{Bool, cond, _&&_}
+use mathlib.Core.Bool.{cond}
 use mathlib.Core.List.{List}
 use lib.Dec.{eqb}
-use lib.ListN.{length}
 use Rattle.rectangular.specs.Constants.{tracks}
-use Rattle.rectangular.specs.Correction.{pointedTracks, Judgement, corrected, manyPointed, noGroup, changedMap}
+use Rattle.rectangular.specs.Correction.{Judgement, corrected, manyPointed, noGroup, changedMap}
 use Rattle.rectangular.specs.Syndrome as syndrome
 use Rattle.group6250.specs.Packed.{valuesOf}
 use Rattle.judge6250.specs.declared.errors.Errors.{Errors}
 use Rattle.judge6250.specs.declared.errors.Errors.the-variants.{In, TooMany, Unaccounted}
 use Rattle.judge6250.specs.declared.judge.Judged.{Judged}
 use Rattle.judge6250.specs.declared.judge.Judged.the-variants.{Corrected, ManyPointed, NoGroup}
-
--- the pointed tracks that are relied on, by whether all words are legal: a single one is not then (document 02, "2.3")
-unfoldable pub reliedIn : Bool → ℕ → ℕ
-reliedIn legal pointers = cond (legal && eqb (length (pointedTracks tracks pointers)) 1) 0 pointers
 
 abbrev pub toldErrors : Errors → syndrome.Errors
 toldErrors (In pair) = syndrome.errorsIn (pair .first) (pair .error) (pair .second) (pair .other)

@@ -12,8 +12,9 @@ ghost use lib.Dec.{ltb};
 ghost use Rattle.indexed.specs.List.{below};
 ghost use Rattle.rectangular.specs.Constants.{feedback, exponent, tracks};
 ghost use Rattle.rectangular.specs.Correction.{pointedTracks};
+ghost use Rattle.rectangular.specs.Relied.{reliedOn};
 ghost use Rattle.rectangular.specs.Syndrome.{weighed, secondError, errorsIn, unaccounted, firstAccounting, oneError, twoErrors, errorsOf};
-ghost use Rattle.judge6250.specs.Told.{reliedIn, toldErrors};
+ghost use Rattle.judge6250.specs.Told.{toldErrors};
 
 // An error in each of two tracks: `error` in the first, `other` in the second. Either may be 0, which is none.
 pub struct ErrorPair {
@@ -62,19 +63,7 @@ fn located(s1: u8, s2: u8) -> usize
     Code6250::TRACKS
 }
 
-// One error, S1, in a track, and none in P beside it.
-fn one(track: usize, s1: u8) -> Errors
-    ensures { λ r. ⌜ toldErrors r ≡ errorsIn track s1 8 0 ⌝ }
-{
-    Errors::In(ErrorPair {
-        first: track,
-        error: s1,
-        second: Code6250::PARITY_TRACK,
-        other: 0,
-    })
-}
-
-// The same, with a track that mostly is the one and so is tried first. No two tracks account, unless S1 is 0.
+// The same, with a track that mostly is the one and so is tried first: no two tracks account for S2, unless S1 is 0.
 fn located_likely(likely: usize, s1: u8, s2: u8) -> usize
     requires { ⌜ likely < tracks ⌝ }
     ensures { λ r. ⌜ r ≡ firstAccounting 8 feedback s1 s2 (below tracks) ⌝ }
@@ -86,6 +75,18 @@ fn located_likely(likely: usize, s1: u8, s2: u8) -> usize
         }
     }
     located(s1, s2)
+}
+
+// One error, S1, in a track, and none in P beside it.
+fn one(track: usize, s1: u8) -> Errors
+    ensures { λ r. ⌜ toldErrors r ≡ errorsIn track s1 8 0 ⌝ }
+{
+    Errors::In(ErrorPair {
+        first: track,
+        error: s1,
+        second: Code6250::PARITY_TRACK,
+        other: 0,
+    })
 }
 
 // One track may be wrong: the one that was located, if there is one.
@@ -141,7 +142,7 @@ fn pointed_twice(first: usize, second: usize, s1: u8, s2: u8) -> Errors
 // The errors by the tracks that are pointed, bit i of the map for track i, and whether all words are legal.
 pub fn errors_of(s1: u8, s2: u8, pointers: u16, legal: bool) -> Errors
     requires { ⌜ pointers < 2 ^ tracks ⌝ }
-    ensures { λ r. ⌜ toldErrors r ≡ errorsOf 8 feedback exponent s1 s2 (pointedTracks tracks (reliedIn legal pointers)) ⌝ }
+    ensures { λ r. ⌜ toldErrors r ≡ errorsOf 8 feedback exponent s1 s2 (pointedTracks tracks (reliedOn legal pointers)) ⌝ }
 {
     if pointers == 0 {
         return anywhere(located(s1, s2), s1);

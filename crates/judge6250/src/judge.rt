@@ -1,4 +1,5 @@
-// How a group that was read is judged: which group of the code fits it (document 000, theorems 1 and 2).
+// How a group that was read is judged: which group of the code fits it (document 000, theorems 1 and 2; document 02,
+// "2.3").
 use crate::errors::ErrorPair;
 use crate::errors::Errors;
 use crate::errors::errors_of;
@@ -17,8 +18,9 @@ ghost use Rattle.indexed.specs.List.{tabulate};
 ghost use Rattle.register.specs.Xor.{_⊕_};
 ghost use Rattle.rectangular.specs.Constants.{feedback, exponent, tracks};
 ghost use Rattle.rectangular.specs.Correction.{pointedTracks, errorAt, judged, changedMap};
+ghost use Rattle.rectangular.specs.Relied.{reliedOn};
 ghost use Rattle.group6250.specs.Packed.{valuesOf};
-ghost use Rattle.judge6250.specs.Told.{reliedIn, toldJudged, toldChanged, changedBy, markAt};
+ghost use Rattle.judge6250.specs.Told.{toldJudged, toldChanged, changedBy, markAt};
 
 // The group that fits, and the tracks in which it differs from what was read.
 pub struct Correction {
@@ -78,7 +80,7 @@ fn is_clean(s1: u8, s2: u8, pointers: u16) -> bool
 // Judges a group by the tracks that are pointed, bit i of the map for track i, and whether all words are legal.
 pub fn judge(group: Group, pointers: u16, legal: bool) -> Judged
     requires { ⌜ pointers < 2 ^ tracks ⌝ }
-    ensures told { λ r. ⌜ toldJudged r ≡ judged 8 feedback exponent (λ k. getD (valuesOf group) k 0) (pointedTracks tracks (reliedIn legal pointers)) ⌝ }
+    ensures told { λ r. ⌜ toldJudged r ≡ judged 8 feedback exponent (λ k. getD (valuesOf group) k 0) (pointedTracks tracks (reliedOn legal pointers)) ⌝ }
     ensures changed { λ r. ⌜ toldChanged r ≡ changedBy (valuesOf group) (toldJudged r) ⌝ }
 {
     let s1 = parity(group.tracks) ^ group.parity;

@@ -1,7 +1,7 @@
 -- A group as the code receives and judges it: the judgement and the changed tracks are the definition's.
 -- Assumes nothing.
 use mathlib.Core.Path.{_≡_, refl, sym, ap, ap₂, subst, _∙_}
-use mathlib.Core.Bool.{Bool, true, false, cond, _&&_}
+use mathlib.Core.Bool.{Bool, true, false, cond}
 use mathlib.Core.List.{List}
 use Prim.Native.Nat.{ℕ, _+_, _*_, _/_, _%_, _^_, _<_}
 use native.Mathlib.Decide.{decLt, ℕ-discrete}
@@ -23,10 +23,10 @@ use Rattle.rectangular.specs.Constants.{feedback, exponent, numbersPerGroup}
 use Rattle.rectangular.specs.Correction.{pointedTracks, corrected, judged, changedMap}
 use Rattle.group6250.specs.Packed.{valuesOf}
 use Rattle.group6250.specs.declared.group.Group.{Group}
-use Rattle.judge6250.specs.Told.{reliedIn}
+use Rattle.rectangular.specs.Relied.{reliedOn}
 use Rattle.rectangular.proofs.Same.{judged-same}
 use Rattle.record6250.specs.Fits.{Passes}
-use Rattle.record6250.specs.Group.{illegalMap, onePointer, reliedOn, relied, judgedGroup, rightValues, rightWords}
+use Rattle.record6250.specs.Group.{illegalMap, pointed, relied, judgedGroup, rightValues, rightWords}
 use Rattle.record6250.specs.Picture.{groupLent, groupRead, mapRead}
 use Rattle.record6250.specs.Read.{readNumbers, readGroup, readMap, judgement, changedTracks}
 use Rattle.record6250.specs.Tape.{numbersAt, strayNumbers, wordsFrom}
@@ -83,15 +83,14 @@ module _ (backward : Bool) (words maps : List ℕ) (g place : ℕ) (is-place : p
         ∙ ap (λ (l : List ℕ). valueOn k (getD l k 0)) lent-group
 
     -- the tracks relied on are the definition's
-    relied-told : reliedIn (eqb illegal 0) (bitOr (getD maps place 0) illegal) ≡ relied (readGroup backward words maps g) (readMap backward words maps g)
-    unfolding relied reliedOn onePointer reliedIn
-    relied-told =
-        ap₂ (λ (m i : ℕ). cond (eqb i 0 && eqb (length (pointedTracks 9 (bitOr m i))) 1) 0 (bitOr m i)) lent-map (marks ∙ ap illegalMap lent-group)
+    relied-told : reliedOn (eqb illegal 0) (bitOr (getD maps place 0) illegal) ≡ relied (readGroup backward words maps g) (readMap backward words maps g)
+    unfolding relied pointed
+    relied-told = ap₂ (λ (m i : ℕ). reliedOn (eqb i 0) (bitOr m i)) lent-map (marks ∙ ap illegalMap lent-group)
 
-    pub pointed-lt : getD maps place 0 < 2 ^ 9 → bitOr (getD maps place 0) illegal < 2 ^ 9
-    pointed-lt h = or-lt 9 (getD maps place 0) illegal h (rw marks (illegal-lt lent))
+    pub pointers-lt : getD maps place 0 < 2 ^ 9 → bitOr (getD maps place 0) illegal < 2 ^ 9
+    pointers-lt h = or-lt 9 (getD maps place 0) illegal h (rw marks (illegal-lt lent))
 
-    pub judgement-told : judged 8 feedback exponent (λ k. getD (valuesOf group) k 0) (pointedTracks 9 (reliedIn (eqb illegal 0) (bitOr (getD maps place 0) illegal)))
+    pub judgement-told : judged 8 feedback exponent (λ k. getD (valuesOf group) k 0) (pointedTracks 9 (reliedOn (eqb illegal 0) (bitOr (getD maps place 0) illegal)))
         ≡ judgement backward words maps g
     unfolding judgement judgedGroup
     judgement-told =

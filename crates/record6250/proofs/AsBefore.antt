@@ -1,6 +1,6 @@
--- Definitions that go by how a group lies on tape say what the words of document 01 say without: changes counted over all words of the
--- forward picture, stray bits in the words as they stand there, and groups turned. A request that changes one of these names changes its law
--- here. What track 8 records and which tracks are relied on is not as before: they stand in OddParity and WrongPointer.
+-- Definitions that go by how a group lies on tape say what document 01 says in words: changes counted over all words of the forward picture,
+-- stray bits in the words as they stand there, and groups turned. A request that changes one of these names changes its law here. What
+-- track 8 records, and which tracks are relied on, are not as before: these stand in OddParity and WrongPointer.
 -- Assumes nothing.
 use mathlib.Core.Path.{_≡_, refl, sym, ap, ap₂, _∙_}
 use mathlib.Core.Bool.{Bool, true, false, _||_}

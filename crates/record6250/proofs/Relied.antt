@@ -1,8 +1,8 @@
 -- The tracks that fitting relies on, by whether just one track is pointed, by the drive only. A track that is none of them has a legal
--- word, none are where nothing is pointed, and there are three or more exactly where three or more are pointed.
+-- word; where nothing is pointed there are none; and there are three or more exactly where three or more are pointed.
 -- Assumes nothing.
 use mathlib.Core.Path.{_≡_, refl, sym, ap, subst, _∙_}
-use mathlib.Core.Bool.{Bool, true, false, cond}
+use mathlib.Core.Bool.{Bool, true, false}
 use mathlib.Core.List.{List}
 use mathlib.Core.Logic.{_⊎_, inl, inr}
 use Prim.Native.Nat.{ℕ, _<_, _≤_, _^_}
@@ -13,7 +13,6 @@ use lib.Dec.{eqb}
 use lib.ListN.{length, getD}
 use Rattle.indexed.specs.List.{tabulate, tabulateFrom}
 use Rattle.indexed.proofs.Tabulate.{tabulate-same}
-use Rattle.indexed.proofs.Test.{both-true}
 use Rattle.register.specs.Bit.{bit, ofBits}
 use Rattle.register.proofs.Bit.{bit-lt}
 use Rattle.register.proofs.Expand.{bit-of-zero}
@@ -22,8 +21,10 @@ use Rattle.register.proofs.Ones.{bit-or, bit-of-tabulate, tabulated-lt}
 use Rattle.group_code.specs.Word.{illegality}
 use Rattle.group_code.proofs.Words.{illegality-lt}
 use Rattle.rectangular.specs.Correction.{pointedTracks}
+use Rattle.rectangular.specs.Relied.{onePointer, reliedOn}
 use Rattle.rectangular.proofs.Pointed.{none-pointed}
-use Rattle.record6250.specs.Group.{illegalMap, pointed, onePointer, reliedOn, relied}
+use Rattle.rectangular.proofs.Relied.{relied-none, one-told, relied-one, relied-others}
+use Rattle.record6250.specs.Group.{illegalMap, pointed, relied}
 
 -- of two digits, if none is 1 the second is 0
 second-zero : (a b : ℕ) → (a ≡ 0) ⊎ (a ≡ 1) → (b ≡ 0) ⊎ (b ≡ 1) → bitOr a b ≡ 0 → b ≡ 0
@@ -50,43 +51,35 @@ none-illegal words legal = ap ofBits (tabulate-same 9 (λ k. illegality (getD wo
 
 -- no word is illegal, and no track is pointed by the drive
 pub none-relied : (words : List ℕ) → illegalMap words ≡ 0 → relied words 0 ≡ 0
-unfolding relied reliedOn
-none-relied words legal = ap (reliedOn 0) legal ∙ by (onePointer 0 0)
-  where
-    by : (b : Bool) → _≡_ {A = ℕ} (cond b 0 0) 0
-    by true = refl
-    by false = refl
+unfolding relied pointed
+none-relied words legal = ap (λ (i : ℕ). reliedOn (eqb i 0) (bitOr 0 i)) legal ∙ relied-none true
 
 module _ (words : List ℕ) (pointers : ℕ) where
+  -- just one track is pointed, by the drive only, its word being legal
   abbrev pub isOne : Bool
-  isOne = onePointer pointers (illegalMap words)
+  isOne = onePointer (eqb (illegalMap words) 0) (pointed words pointers)
+
+  pub one-legal : isOne ≡ true → illegalMap words ≡ 0
+  one-legal e = eqb-true _ 0 (one-told _ _ e .0)
+
+  pub one-pointed : isOne ≡ true → length (pointedTracks 9 (pointed words pointers)) ≡ 1
+  one-pointed e = one-told _ _ e .1
+
+  pub one-relied : isOne ≡ true → relied words pointers ≡ 0
+  unfolding relied
+  one-relied e = relied-one _ (pointed words pointers) e
+
+  pub others-relied : isOne ≡ false → relied words pointers ≡ pointed words pointers
+  unfolding relied
+  others-relied e = relied-others _ (pointed words pointers) e
 
   -- a property of the tracks relied on, by the two cases
   relied-by : (P : ℕ → Type 0) → (isOne ≡ true → P 0) → (isOne ≡ false → P (pointed words pointers)) → P (relied words pointers)
-  unfolding relied reliedOn pointed
   relied-by P one other = by isOne refl
     where
-      by : (b : Bool) → isOne ≡ b → P (cond b 0 (bitOr pointers (illegalMap words)))
-      by true e = one e
-      by false e = other e
-
-  -- what is so where just one track is pointed, by the drive only
-  pub one-legal : isOne ≡ true → illegalMap words ≡ 0
-  unfolding onePointer
-  one-legal e = eqb-true _ _ (both-true _ (eqb (length (pointedTracks 9 (bitOr pointers (illegalMap words)))) 1) e .0)
-
-  pub one-pointed : isOne ≡ true → length (pointedTracks 9 (pointed words pointers)) ≡ 1
-  unfolding onePointer pointed
-  one-pointed e = eqb-true _ _ (both-true (eqb (illegalMap words) 0) _ e .1)
-
-  pub one-relied : isOne ≡ true → relied words pointers ≡ 0
-  unfolding relied reliedOn
-  one-relied e = ap (λ (b : Bool). cond b 0 (bitOr pointers (illegalMap words))) e
-
-  -- elsewhere the tracks relied on are those that are pointed
-  pub others-relied : isOne ≡ false → relied words pointers ≡ pointed words pointers
-  unfolding relied reliedOn pointed
-  others-relied e = ap (λ (b : Bool). cond b 0 (bitOr pointers (illegalMap words))) e
+      by : (b : Bool) → isOne ≡ b → P (relied words pointers)
+      by true e = subst P (sym (one-relied e)) (one e)
+      by false e = subst P (sym (others-relied e)) (other e)
 
   pub unrelied-legal : (k : ℕ) → k < 9 → bit k (relied words pointers) ≡ 0 → illegality (getD words k 0) ≡ 0
   unfolding pointed

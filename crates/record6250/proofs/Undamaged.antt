@@ -17,7 +17,7 @@ use Rattle.indexed.proofs.Blocks.{blocks-same}
 use Rattle.indexed.proofs.Differ.{differences-none, equal-of-no-differences}
 use Rattle.indexed.proofs.Total.{total-none, none-of-total}
 use Rattle.group_code.specs.Word.{illegality}
-use Rattle.rectangular.specs.Constants.{feedback, tracks, numbersPerGroup}
+use Rattle.rectangular.specs.Constants.{feedback, numbersPerGroup}
 use Rattle.rectangular.specs.Correction.{pointedTracks, Allowed}
 use Rattle.rectangular.specs.Group.{track}
 use Rattle.rectangular.proofs.Equations.{Below}

@@ -1,9 +1,10 @@
 -- Document 02's request 2.3, in its own words: where just one track is pointed, by the drive only, its word being legal, one track anywhere may
 -- differ, and the group is judged as if nothing were pointed; every other group is judged as before. What was corrected before is
--- corrected alike, so refusal 5 is given for fewer groups and for no other, and refusal 4 for the same.
+-- corrected alike, so refusal 5 is given for fewer groups and for no other, and refusal 4 for the same. A record is answered as it is with such
+-- pointers left out.
 -- Assumes nothing.
 use mathlib.Core.Path.{_≡_, refl, sym, ap, ap₂, subst, _∙_}
-use mathlib.Core.Bool.{Bool, true, false, _&&_}
+use mathlib.Core.Bool.{Bool, true, false}
 use mathlib.Core.List.{List}
 use mathlib.Core.Logic.{_⊎_, inl, inr}
 use Prim.Native.Nat.{ℕ, _<_, _≤_}
@@ -21,9 +22,11 @@ use Rattle.group_code.specs.Word.{illegality}
 use Rattle.group_code.proofs.Words.{illegality-lt}
 use Rattle.rectangular.specs.Constants.{feedback, exponent}
 use Rattle.rectangular.specs.Correction.{pointedTracks, Allowed, Judgement, corrected, manyPointed, noGroup, judged}
+use Rattle.rectangular.specs.Relied.{onePointer}
 use Rattle.rectangular.proofs.Correction.{nine-many, many-nine, nine-anywhere, allowed-anywhere}
 use Rattle.rectangular.proofs.Pointed.{pointed-lt, pointed-one, pointed-found, none-pointed}
-use Rattle.record6250.specs.Group.{illegalMap, pointed, onePointer, relied, judgedGroup}
+use Rattle.rectangular.proofs.Relied.{is-one}
+use Rattle.record6250.specs.Group.{illegalMap, pointed, relied, judgedGroup}
 use Rattle.record6250.specs.Picture.{groupRead}
 use Rattle.record6250.specs.Read.{readGroup, readMap, judgement, readData, changedMaps, judgedAnswer}
 use Rattle.record6250.specs.Track.{valueOn}
@@ -79,8 +82,8 @@ module _ (words : List ℕ) (pointers : ℕ) where
           absurd (omega (arith, legal, e, ap (λ (i : ℕ). illegality (getD words i 0)) (the-same one j k hj hk (by-word j hj e) (by-drive k by))))
 
   pub just-one : JustOne → isOne words pointers ≡ true
-  unfolding onePointer pointed
-  just-one j = ap₂ _&&_ (eq-eqb (illegalMap words) 0 (all-legal j)) (eq-eqb _ 1 (j .0))
+  just-one j =
+      ap (λ (b : Bool). onePointer b (pointed words pointers)) (eq-eqb (illegalMap words) 0 (all-legal j)) ∙ is-one (pointed words pointers) (j .0)
 
   pub one-just : isOne words pointers ≡ true → JustOne
   unfolding pointed
@@ -115,7 +118,7 @@ module _ (words : List ℕ) (pointers : ℕ) where
     one-may-differ h =
         subst (λ (m : ℕ). Allowed 9 m read right) (sym (one-relied words pointers (just-one one))) (inl (ap length (none-pointed 9), h))
 
-  -- what was allowed by the pointed tracks still is, so that a record that fitted fits
+  -- what the pointed tracks allow is allowed
   pub still-allowed : (read right : ℕ → ℕ) → Allowed 9 (pointed words pointers) read right → Allowed 9 (relied words pointers) read right
   still-allowed read right a = by (isOne words pointers) refl
     where
@@ -154,8 +157,8 @@ module _ (words : List ℕ) (pointers : ℕ) where
   pub illegal-as-before : (k : ℕ) → k < 9 → illegality (getD words k 0) ≡ 1 → judgedGroup words pointers ≡ judgedBefore
   illegal-as-before k h e = as-before (λ one. omega (arith, illegal-bit words k h, ap (bit k) (all-legal one), bit-of-zero k))
 
-  pub many-as-before : (length pointedHere ≡ 1 → ⊥) → judgedGroup words pointers ≡ judgedBefore
-  many-as-before other = as-before (λ one. other (one .0))
+  pub not-one-as-before : (length pointedHere ≡ 1 → ⊥) → judgedGroup words pointers ≡ judgedBefore
+  not-one-as-before other = as-before (λ one. other (one .0))
 
   -- what was corrected is corrected alike
   pub still-corrected : (u : List ℕ) → judgedBefore ≡ corrected u → judgedGroup words pointers ≡ corrected u

@@ -1,12 +1,11 @@
--- How a group of nine words is judged, with the drive's pointer map (document 01, "The 6250 group"; the notice, third term; document 02,
--- "2.3 A drive that points at the wrong track").
+-- How a group of nine words is judged, with the drive's pointer map (document 01, "The 6250 group"; the notice, third term).
 -- Assumes nothing.
 use Prim.Native.Nat.{ℕ}
-use mathlib.Core.Bool.{Bool, true, false, cond, _&&_}
+use mathlib.Core.Bool.{Bool, true, false}
 use mathlib.Core.List.{List, []}
 use lib.Bits.{bitOr}
 use lib.Dec.{eqb}
-use lib.ListN.{length, getD}
+use lib.ListN.{getD}
 use Rattle.indexed.specs.List.{tabulate}
 use Rattle.register.specs.Bit.{ofBits}
 use Rattle.answer.specs.declared.Reason.{Reason}
@@ -15,6 +14,7 @@ use Rattle.group_code.specs.Word.{illegality}
 use Rattle.rectangular.specs.Constants.{feedback, exponent, tracks}
 use Rattle.rectangular.specs.Correction.{pointedTracks, Judgement, corrected, manyPointed, noGroup, judged}
 use Rattle.rectangular.specs.Group.{informationOf}
+use Rattle.rectangular.specs.Relied.{reliedOn}
 use Rattle.record6250.specs.Track.{valueOn, wordsOf}
 
 -- the tracks whose words are illegal, as a map
@@ -25,18 +25,9 @@ illegalMap words = ofBits (tabulate tracks (λ k. illegality (getD words k 0)))
 unfoldable pub pointed : List ℕ → ℕ → ℕ
 pointed words pointers = bitOr pointers (illegalMap words)
 
--- "Just one track is pointed, by the drive only, its word being legal", by the drive's map and the map of illegal words: one is pointed, and no
--- word is illegal
-unfoldable pub onePointer : ℕ → ℕ → Bool
-onePointer pointers illegal = eqb illegal 0 && eqb (length (pointedTracks tracks (bitOr pointers illegal))) 1
-
--- The tracks that fitting relies on: there none, since "one track anywhere may differ", which is what holds with none pointed; elsewhere those
--- that are pointed.
-unfoldable pub reliedOn : ℕ → ℕ → ℕ
-reliedOn pointers illegal = cond (onePointer pointers illegal) 0 (bitOr pointers illegal)
-
+-- the tracks that fitting relies on (document 02, "2.3")
 unfoldable pub relied : List ℕ → ℕ → ℕ
-relied words pointers = reliedOn pointers (illegalMap words)
+relied words pointers = reliedOn (eqb (illegalMap words) 0) (pointed words pointers)
 
 -- the judgement: the values of the group that fits, or why none does
 unfoldable pub judgedGroup : List ℕ → ℕ → Judgement

@@ -6,6 +6,7 @@ pub mod Suits
 pub mod Erasure
 pub mod Syndrome
 pub mod Pointed
+pub mod Relied
 pub mod Errors
 pub mod Correction
 pub mod Same

@@ -1,7 +1,7 @@
 -- `judge6250::errors::errors_of` meets its contract: the counts of the map's bits are its pointed tracks.
 -- Assumes nothing.
 use mathlib.Core.Path.{_≡_, sym, ap, _∙_}
-use mathlib.Core.Bool.{Bool}
+use mathlib.Core.Bool.{Bool, true, false}
 use mathlib.Core.List.{[], _∷_}
 use Prim.Native.Nat.{ℕ, _-_, _<_}
 use native.Mathlib.Omega.{arith}
@@ -11,10 +11,11 @@ use lib.Count.{trailingZeros, trailing-le}
 use lib.ListN.{length}
 use Rattle.rectangular.specs.Constants.{feedback, exponent}
 use Rattle.rectangular.specs.Correction.{pointedTracks}
+use Rattle.rectangular.specs.Relied.{reliedOn}
 use Rattle.rectangular.specs.Syndrome.{errorsOf}
-use Rattle.judge6250.proofs.Judging.{one-anywhere, relied-none, relied-single, relied-certain, relied-others, pointed-count, counts-one, counts-two, counts-many, one-pointed, two-pointed, many-pointed}
+use Rattle.judge6250.proofs.Judging.{one-anywhere, pointed-count, counts-one, counts-two, counts-many, one-pointed, two-pointed, many-pointed}
 use Rattle.rectangular.proofs.Pointed.{pointed-lt, pointed-ascends, none-pointed}
-use Rattle.judge6250.specs.Told.{reliedIn}
+use Rattle.rectangular.proofs.Relied.{relied-none, relied-one, relied-others, is-one, illegal-not-one, others-not-one}
 use Rattle.judge6250.proofs.errors.errors_of.Statement.{statement}
 use Rattle.judge6250.proofs.errors.errors_of.Tie as tie
 
@@ -28,7 +29,7 @@ returns : tie.Need-returns
 unfolding errorsOf
 returns c =
     let args = c .before .before .before .args in
-    let none = ap (reliedIn (args .legal)) (c .before .before .if1 .taken) ∙ relied-none (args .legal) in
+    let none = ap (reliedOn (args .legal)) (c .before .before .if1 .taken) ∙ relied-none (args .legal) in
     c .anywhere .ensures
     ∙ one-anywhere (args .s1) (args .s2) _ (c .before .located .ensures)
     ∙ sym (ap (errorsOf 8 feedback exponent (args .s1) (args .s2)) (ap (pointedTracks 9) none ∙ none-pointed 9))
@@ -64,7 +65,7 @@ returns-2 c =
     c .anywhere2 .ensures
     ∙ one-anywhere (start .args .s1) (start .args .s2) _ (c .before .located-likely .ensures)
     ∙ sym (ap (errorsOf 8 feedback exponent (start .args .s1) (start .args .s2))
-    (ap (pointedTracks 9) (ap (λ (b : Bool). reliedIn b m) (c .before .before .if3 .taken) ∙ relied-single m one) ∙ none-pointed 9))
+    (ap (pointedTracks 9) (ap (λ (b : Bool). reliedOn b m) (c .before .before .if3 .taken) ∙ relied-one true m (is-one m one)) ∙ none-pointed 9))
 
 pointed-once-requires : tie.Need-pointed-once-requires
 pointed-once-requires c κs =
@@ -78,7 +79,7 @@ returns-3 c =
     let m = start .args .pointers in
     c .pointed-once .ensures
     ∙ sym (ap (errorsOf 8 feedback exponent (start .args .s1) (start .args .s2))
-    (ap (pointedTracks 9) (ap (λ (b : Bool). reliedIn b m) (c .before .if3 .left) ∙ relied-certain m)
+    (ap (pointedTracks 9) (ap (λ (b : Bool). reliedOn b m) (c .before .if3 .left) ∙ relied-others false m (illegal-not-one m))
     ∙ the-one m (start .pre) (c .before .before .before .if1 .left) (c .before .before .if2 .taken)))
 
 sub-if4 : tie.Need-sub-if4
@@ -105,7 +106,7 @@ returns-4 c =
     let is = two-pointed m (start .pre) (counts-two m (start .pre) (c .before .before .before .if1 .left) (c .before .before .if2 .left) (c .before .if4 .taken)) in
     c .pointed-twice .ensures
     ∙ sym (ap (errorsOf 8 feedback exponent (start .args .s1) (start .args .s2))
-    (ap (pointedTracks 9) (relied-others m (start .args .legal) (λ e. omega (arith, e, ap length is))) ∙ is))
+    (ap (pointedTracks 9) (relied-others (start .args .legal) m (others-not-one m (start .args .legal) (λ e. omega (arith, e, ap length is)))) ∙ is))
 
 returns-5 : tie.Need-returns-5
 returns-5 c =
@@ -114,7 +115,7 @@ returns-5 c =
     let many = counts-many m (start .pre) (c .before .before .if1 .left) (c .before .if2 .left) (c .if4 .left) in
     many-pointed (start .args .s1) (start .args .s2) m (start .pre) (c .before .before .if1 .left) (many 1 (omega arith)) (many 2 (omega arith))
     ∙ sym (ap (λ (p : ℕ). errorsOf 8 feedback exponent (start .args .s1) (start .args .s2) (pointedTracks 9 p))
-    (relied-others m (start .args .legal) (λ e. many 1 (omega arith) (sym (pointed-count m (start .pre)) ∙ e))))
+    (relied-others (start .args .legal) m (others-not-one m (start .args .legal) (λ e. many 1 (omega arith) (sym (pointed-count m (start .pre)) ∙ e)))))
 
 pub errors-of-spec : {M : Type 1} → statement M
 errors-of-spec =

@@ -10,14 +10,15 @@ use lib.ListN.{getD}
 use Rattle.indexed.proofs.Tabulate.{tabulate-getD}
 use Rattle.rectangular.specs.Constants.{feedback, exponent}
 use Rattle.rectangular.specs.Correction.{pointedTracks, corrected, without, judged}
+use Rattle.rectangular.specs.Relied.{reliedOn}
 use Rattle.rectangular.specs.Syndrome.{paritySyndrome, checkSyndrome, Errors, errorsOf}
 use Rattle.group6250.specs.declared.group.Group.{Group}
 use Rattle.group6250.specs.Packed.{valuesOf}
 use Rattle.group6250.proofs.Packed.{length-values, parity-syndrome, check-syndrome}
 use Rattle.rectangular.proofs.Errors.{errors-apart}
+use Rattle.rectangular.proofs.Relied.{relied-none}
 use Rattle.judge6250.proofs.Corrected.{clean-judged, unchanged}
-use Rattle.judge6250.proofs.Judging.{relied-none}
-use Rattle.judge6250.specs.Told.{reliedIn, toldErrors, changedBy}
+use Rattle.judge6250.specs.Told.{toldErrors, changedBy}
 use Rattle.judge6250.proofs.judge.judge.Statement.{statement}
 use Rattle.judge6250.proofs.judge.judge.Tie as tie
 
@@ -48,7 +49,7 @@ corrected-requires c κs =
     let told = c .before .before .before .errors-of in
     let pair = c .before .pair .given in
     let start = c .before .before .before .before .before .before .before .before .before in
-    let within = errors-apart 8 feedback exponent _ _ (reliedIn (start .args .legal) (start .args .pointers)) _ _ _ _ (sym (told .ensures) ∙ ap toldErrors (pair .1)) in
+    let within = errors-apart 8 feedback exponent _ _ (reliedOn (start .args .legal) (start .args .pointers)) _ _ _ _ (sym (told .ensures) ∙ ap toldErrors (pair .1)) in
     (omega (arith, within .first), omega (arith, within .second), within .apart)
 
 enum-told : tie.Need-enum-told
@@ -76,7 +77,7 @@ returns c =
     let none = eqb-true (start .args .pointers) 0 (clean .2) in
     let s1 = sym (parity-syndrome g _ (c .before .before .before .before .parity .ensures)) ∙ eqb-true _ 0 (clean .0) in
     let s2 = sym (check-syndrome g _ (c .before .before .check-syndrome .ensures)) ∙ eqb-true _ 0 (clean .1) in (
-      sym (ap (λ (p : ℕ). judged 8 feedback exponent (λ k. getD (valuesOf g) k 0) (pointedTracks 9 p)) (ap (reliedIn legal) none ∙ relied-none legal)
+      sym (ap (λ (p : ℕ). judged 8 feedback exponent (λ k. getD (valuesOf g) k 0) (pointedTracks 9 p)) (ap (reliedOn legal) none ∙ relied-none legal)
           ∙ clean-judged (λ k. getD (valuesOf g) k 0) s1 s2
           ∙ ap corrected (tabulate-getD 9 (valuesOf g) (length-values g))),
       sym (unchanged (valuesOf g)),
@@ -90,7 +91,7 @@ returns-2 c =
     let g = start .args .group in
     let pair = c .before .before .pair .given in (
       ap corrected (c .corrected .ensures .0)
-          ∙ judgement-of g _ _ (reliedIn (start .args .legal) (start .args .pointers)) (parity-syndrome g _ (at .before .before .before .before .before .parity .ensures))
+          ∙ judgement-of g _ _ (reliedOn (start .args .legal) (start .args .pointers)) (parity-syndrome g _ (at .before .before .before .before .before .parity .ensures))
           (check-syndrome g _ (at .before .before .before .check-syndrome .ensures)) _ (sym (ap toldErrors (pair .1)) ∙ at .errors-of .ensures),
       c .corrected .ensures .1,
     )
@@ -101,7 +102,7 @@ returns-3 c =
     let at = c .before .before in
     let start = at .before .before .before .before .before .before in
     let g = start .args .group in (
-      judgement-of g _ _ (reliedIn (start .args .legal) (start .args .pointers)) (parity-syndrome g _ (at .before .before .before .before .before .parity .ensures))
+      judgement-of g _ _ (reliedOn (start .args .legal) (start .args .pointers)) (parity-syndrome g _ (at .before .before .before .before .before .parity .ensures))
           (check-syndrome g _ (at .before .before .before .check-syndrome .ensures)) _ (sym (ap toldErrors (c .enum-told .given .1)) ∙ at .errors-of .ensures),
       refl,
     )
@@ -112,7 +113,7 @@ returns-4 c =
     let at = c .before .before in
     let start = at .before .before .before .before .before .before in
     let g = start .args .group in (
-      judgement-of g _ _ (reliedIn (start .args .legal) (start .args .pointers)) (parity-syndrome g _ (at .before .before .before .before .before .parity .ensures))
+      judgement-of g _ _ (reliedOn (start .args .legal) (start .args .pointers)) (parity-syndrome g _ (at .before .before .before .before .before .parity .ensures))
           (check-syndrome g _ (at .before .before .before .check-syndrome .ensures)) _ (sym (ap toldErrors (c .enum-told2 .given .1)) ∙ at .errors-of .ensures),
       refl,
     )

@@ -9,7 +9,7 @@ use Rattle.rectangular.specs.Correction.{corrected}
 use Rattle.judge6250.specs.Told.{toldJudged, toldChanged, changedBy}
 use Rattle.group6250.specs.Packed.{valuesOf}
 use Rattle.record6250.specs.Group.{illegalMap, isCorrected}
-use Rattle.reading6250.proofs.GroupJudged.{lent-below, lent-group, lent-map, value-at, pointed-lt, judgement-told, changed-told}
+use Rattle.reading6250.proofs.GroupJudged.{lent-below, lent-group, lent-map, value-at, pointers-lt, judgement-told, changed-told}
 use Rattle.record6250.proofs.Reading.{words-long, map-below}
 use borrow.Author.Needs.{needs}
 use Rattle.reading6250.proofs.group.judge_group.Statement.{statement}
@@ -48,7 +48,7 @@ judge-requires c κs =
     let maps = now (start .args .maps) in
     let b = start .args .backward in
     let g = start .args .g in
-    pointed-lt b words maps g (place .result) (place .ensures .0) _ _ (received .ensures .0) (received .ensures .1)
+    pointers-lt b words maps g (place .result) (place .ensures .0) _ _ (received .ensures .0) (received .ensures .1)
     (rw (lent-map b words maps g (place .result) (place .ensures .0)) (map-below b words maps (start .pre .0) g (start .pre .1)))
 
 enum-known-right : tie.Need-enum-known-right
