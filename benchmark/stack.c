@@ -88,16 +88,19 @@ static uint16_t reversed(uint16_t word) {
     return result;
 }
 
-/* The reading of a record of so many bytes at 6250: without error (0), with a wrong track (1), with two pointed (2), and to be
- * refused (3). */
+/* The reading of a record of so many bytes at 6250: without error (0), with a wrong track and none (1), itself (2) or another one (3)
+ * pointed, with two wrong and pointed (4), and to be refused (5). */
+#define DAMAGES 6
+static const uint16_t pointed[DAMAGES] = {0, 0, 16, 128, 17, 0};
+
 static void damage_at_6250(size_t data, int backward, int damage) {
     size_t g, k;
     rindthok_write6250(bytes, data, words, WORDS, &group_count, &place);
     for (g = 0; g < group_count; g++) {
-        maps[g].algebraic = damage == 2 ? 17 : 0;
+        maps[g].algebraic = pointed[damage];
         for (k = 0; k < 9; k++) {
             size_t from = backward ? group_count - 1 - g : g;
-            int wrong = (damage > 0 && k == 4) || (damage > 1 && k == 0);
+            int wrong = (damage > 0 && k == 4) || (damage > 3 && k == 0);
             uint16_t word = wrong ? 825 : words[9 * from + k];
             turned[9 * g + k] = backward ? reversed(word) : word;
         }
@@ -106,7 +109,7 @@ static void damage_at_6250(size_t data, int backward, int damage) {
 
 static void read_at_6250(size_t data, int backward, void (*function)(void)) {
     int damage;
-    for (damage = 0; damage < 4; damage++) {
+    for (damage = 0; damage < DAMAGES; damage++) {
         damage_at_6250(data, backward, damage);
         measure(read6250, function);
     }
@@ -115,7 +118,7 @@ static void read_at_6250(size_t data, int backward, void (*function)(void)) {
 /* The logs of the same readings. */
 static void log_at_6250(size_t data, int backward, void (*function)(void)) {
     int damage;
-    for (damage = 0; damage < 4; damage++) {
+    for (damage = 0; damage < DAMAGES; damage++) {
         damage_at_6250(data, backward, damage);
         measure(log6250, function);
     }
@@ -126,7 +129,7 @@ static void read_logs(void) {
     int damage;
     size_t k;
     for (k = 0; k < SIZES; k++) {
-        for (damage = 0; damage < 3; damage++) {
+        for (damage = 0; damage < DAMAGES - 1; damage++) {
             damage_at_6250(sizes[k], 0, damage);
             rindthok_log6250_forward(turned, 9 * group_count, maps, group_count, log_bytes, sizeof log_bytes, &log_length, &place);
             measure(read_log, ANY(rindthok_read_log));

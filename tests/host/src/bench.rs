@@ -1,6 +1,7 @@
 //! The bench readings of document 01 that are not in the proved table, what its section on reading backward says of a
 //! stray word, what becomes of records with the parity that they had before request 2.2 of document 02, and of groups with one
-//! wrong track too many under its request 2.3. The answers stand here as the documents have them.
+//! wrong track too many under its request 2.3. The answers stand here as the documents have them; the counts of groups that are taken
+//! for another are ours.
 
 use crate::damage6250::make_even;
 use crate::library::{self, Answer, Direction};

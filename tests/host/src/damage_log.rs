@@ -26,8 +26,8 @@ fn random_data(seeded: &mut Seeded, case: usize) -> Vec<u8> {
     (0..length).map(|_| seeded.next() as u8).collect()
 }
 
-/// Changes words in some groups so that a record still fits: one track, with none pointed, with itself or with another, or up
-/// to two that are pointed. A pointed track may stay right.
+/// Changes words in some groups so that a record still fits: one track, with none, itself or another one pointed, or up to two
+/// that are pointed. A pointed track may stay right.
 fn weaken(seeded: &mut Seeded, reading: &mut Reading) {
     let often = 1 + seeded.below(6);
     for (words, map) in reading.words.chunks_exact_mut(9).zip(&mut reading.maps) {

@@ -1,5 +1,5 @@
-//! Reading at 6250 again, from the third term of the notice: it tries what may fit, candidate by
-//! candidate, and computes no syndrome. It shares nothing with the library.
+//! Reading at 6250 again, from the third term of the notice and from document 02, request 2.3: it tries what may fit,
+//! candidate by candidate, and computes no syndrome. It shares nothing with the library.
 
 use crate::library::{Answer, Direction};
 use crate::record6250::{body, group, written, CODES};
