@@ -91,8 +91,8 @@ uint16_t rindthok_write6250(const uint8_t *bytes, size_t byte_count, uint16_t *w
  * writer leaves it. `size`, `changes` and `output` are then as they were.
  * Of a group that fits, the pointed tracks alone may differ, two at most; one track anywhere may with none pointed, and
  * with one that only its map points, its word being legal, since a drive may point at a healthy neighbour of the bad
- * track. Two wrong tracks, of which the map points at one only, are refused or taken for another record, as two that
- * nobody points at are.
+ * track. Two wrong tracks whose words are legal, of which the map points at one only, are refused or taken for another
+ * record, as two that nobody points at are.
  * A record whose track 8 has even parity, as it was written before document 02's request 2.2, reads with word 8 of
  * every group changed; with one more wrong track in a group it is refused or taken for another record. Exchange each
  * word 8 for the word of its byte's complement first. */
