@@ -5,6 +5,7 @@ pub mod Total
 pub mod First
 pub mod Below
 pub mod Keep
+pub mod Onto
 pub mod Front
 pub mod Blocks
 pub mod Joined

@@ -3,6 +3,7 @@
 use Prim.Native.Nat.{ℕ, zero, suc, _+_}
 use mathlib.Core.Bool.{Bool, cond}
 use mathlib.Core.List.{List, [], _∷_, _++_}
+use lib.Dec.{eqb}
 
 -- f i, f (i + 1), .., n of them
 unfoldable pub tabulateFrom : {A : Type 0} → ℕ → ℕ → (ℕ → A) → List A
@@ -40,3 +41,7 @@ keep p (x ∷ xs) = cond (p x) (x ∷ keep p xs) (keep p xs)
 unfoldable pub total : ℕ → (ℕ → ℕ) → ℕ
 total zero f = zero
 total (suc n) f = total n f + f n
+
+-- how many of f 0, .., f (n - 1) are a
+unfoldable pub occurrences : ℕ → (ℕ → ℕ) → ℕ → ℕ
+occurrences n f a = total n (λ k. cond (eqb (f k) a) 1 0)

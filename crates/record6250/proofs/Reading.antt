@@ -1,7 +1,7 @@
 -- A reading that passed: how many groups it has, and that its words have ten bits; and the groups of a body.
 -- Assumes nothing.
-use mathlib.Core.Path.{_≡_, refl, sym}
-use mathlib.Core.Bool.{Bool, true, false, _&&_, _||_, false≢true}
+use mathlib.Core.Path.{_≡_}
+use mathlib.Core.Bool.{Bool, true, false, _&&_}
 use mathlib.Core.List.{List}
 use Prim.Native.Nat.{ℕ, _-_, _*_, _<_, _≤_}
 use native.Mathlib.Omega.{arith}
@@ -17,18 +17,8 @@ use Rattle.record6250.specs.Record.{groupBytes}
 use Rattle.record6250.specs.Tape.{strayNumbers}
 use Rattle.record6250.proofs.Bounded.{Bounded, take-bounded, drop-bounded}
 use Rattle.indexed.proofs.Below.{first-below-before}
-use Rattle.indexed.proofs.Test.{both-true}
+use Rattle.indexed.proofs.Test.{both-true, both-false}
 use Rattle.record6250.proofs.Tape.{words-small}
-
--- ---- tests that passed, or failed
-
-right-false : (a b : Bool) → (a || b) ≡ false → b ≡ false
-right-false true b e = absurd (false≢true (sym e))
-right-false false b e = e
-
-left-false : (a b : Bool) → (a || b) ≡ false → a ≡ false
-left-false true b e = e
-left-false false b e = refl
 
 pub lengths-told : (n m : ℕ) → lengthsSuit n m ≡ true → (0 < m) × (m ≤ 586) × (n ≡ numbersPerGroup * m)
 unfolding lengthsSuit
@@ -47,7 +37,7 @@ module _ (backward : Bool) (words maps : List ℕ) (passes : Passes backward wor
 
   pub map-below : (g : ℕ) → g < length maps → readMap backward words maps g < 512
   unfolding strayAt
-  map-below g h = omega (arith, ltb-false 511 (readMap backward words maps g) (right-false (strayNumbers (readNumbers backward words maps g)) _ (none-stray-at g h)))
+  map-below g h = omega (arith, ltb-false 511 (readMap backward words maps g) (both-false (strayNumbers (readNumbers backward words maps g)) _ (none-stray-at g h) .1))
 
   pub groups-within : (0 < length maps) × (length maps ≤ 586)
   groups-within =
@@ -55,7 +45,7 @@ module _ (backward : Bool) (words maps : List ℕ) (passes : Passes backward wor
 
   pub none-stray-lent : (g : ℕ) → g < length maps → strayNumbers (readNumbers backward words maps g) ≡ false
   unfolding strayAt
-  none-stray-lent g h = left-false (strayNumbers (readNumbers backward words maps g)) _ (none-stray-at g h)
+  none-stray-lent g h = both-false (strayNumbers (readNumbers backward words maps g)) _ (none-stray-at g h) .0
 
   pub words-below : (g : ℕ) → g < length maps → (k : ℕ) → k < 9 → getD (readGroup backward words maps g) k 0 < 1024
   unfolding readGroup groupRead readNumbers
