@@ -12,7 +12,7 @@ use lib.Dec.{T, eqb, ltb, ltb→lt}
 use Rattle.indexed.proofs.Test.{both-left, both-right}
 use Rattle.answer.specs.Answer.{Answer, delivered, refused, refusedFor, numberOf, refusals}
 use Rattle.answer.specs.declared.Reason.{Reason}
-use Rattle.answer.specs.declared.Reason.the-variants.{Length, Space, StrayBits, ManyPointed, NoGroup, Padding, NoRecord, SeveralRecords, LogLength, LogContent}
+use Rattle.answer.specs.declared.Reason.the-variants.{Length, Space, StrayBits, ManyPointed, NoGroup, Padding, NoRecord, SeveralRecords, LogLength, LogContent, CardContent, CardLength}
 
 -- a test whether a number stands in a list
 stands : ℕ → List ℕ → Bool
@@ -40,6 +40,8 @@ listed NoRecord = is-member _ refusals tt
 listed SeveralRecords = is-member _ refusals tt
 listed LogLength = is-member _ refusals tt
 listed LogContent = is-member _ refusals tt
+listed CardContent = is-member _ refusals tt
+listed CardLength = is-member _ refusals tt
 
 -- a call from C returns 0 for a delivery: no refusal has that number
 positives : List ℕ → Bool
@@ -59,17 +61,17 @@ pub listed-positive : (n : ℕ) → List·Memᴰ n refusals → 0 < n
 unfolding positives
 listed-positive = all-positive refusals tt
 
--- a delivery, or a refusal whose number is listed and whose place is 0 or below a bound
-unfoldable pub Listed : ℕ → Answer → Type 0
+-- a delivery, or a refusal whose number is listed and whose place is 0 or below that number's bound
+unfoldable pub Listed : (ℕ → ℕ) → Answer → Type 0
 Listed bound (delivered figures) = Unit
-Listed bound (refused number place) = List·Memᴰ number refusals × ((place < bound) ⊎ (place ≡ 0))
+Listed bound (refused number place) = List·Memᴰ number refusals × ((place < bound number) ⊎ (place ≡ 0))
 
-module _ (bound : ℕ) where
+module _ (bound : ℕ → ℕ) where
   pub listed-delivery : (figures : List ℕ) → Listed bound (delivered figures)
   unfolding Listed
   listed-delivery figures = tt
 
-  pub listed-at : (reason : Reason) (place : ℕ) → (place < bound) ⊎ (place ≡ 0) → Listed bound (refusedFor reason place)
+  pub listed-at : (reason : Reason) (place : ℕ) → (place < bound (numberOf reason)) ⊎ (place ≡ 0) → Listed bound (refusedFor reason place)
   unfolding Listed
   listed-at reason place h = (listed reason, h)
 

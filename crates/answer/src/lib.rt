@@ -25,6 +25,10 @@ pub enum Reason {
     LogLength,
     // A log has a spare bit, or a map of changed tracks that no reading has (request 2.1).
     LogContent,
+    // A card has a number above 8, or one that stands on two tracks (request 2.4).
+    CardContent,
+    // A card does not have nine numbers (request 2.4).
+    CardLength,
 }
 
 impl Reason {
@@ -43,11 +47,13 @@ impl Reason {
             Reason::SeveralRecords => 8,
             Reason::LogLength => 9,
             Reason::LogContent => 10,
+            Reason::CardContent => 11,
+            Reason::CardLength => 12,
         }
     }
 }
 
-// A refusal: its reason and its place, which is a group, a character or a word, or 0.
+// A refusal: its reason and its place, which is a group, a character, a word or a physical track, or 0.
 pub struct Refusal {
     pub reason: Reason,
     pub place: usize,

@@ -1,6 +1,7 @@
-// Nine words or the nine bits of a pointer map, moved by a way, and note 11's way between head order and code order (document
-// 000). The moving takes any permutation of nine places and refuses nothing: the crate head_order has the calls, with what
-// they refuse.
+// Nine words or the nine bits of a pointer map, moved by a way: for each of nine places, the place to take from. The moving
+// takes any permutation of nine places and refuses nothing: the crate head_order has the calls, with what they refuse. A way
+// is made of a card (document 02, request 2.4).
+pub mod card;
 pub mod track;
 
 use rectangular::Code6250;
@@ -9,41 +10,26 @@ ghost use mathlib.Core.List.{_++_};
 ghost use Prim.Native.Nat.{_≤_};
 ghost use lib.ListN.{length, drop};
 ghost use Rattle.rectangular.specs.Constants.{tracks};
-ghost use Rattle.track_order.specs.Order.{Permutation, inverse, arranged, arrangedMap};
+ghost use Rattle.track_order.specs.Order.{Permutation, arranged, arrangedMap};
 
-// For each of nine places, the place to take from.
-pub type Way = [usize; Code6250::TRACKS];
-
-// The way back: what the way takes from a place goes there again.
-pub fn inverse(way: &Way) -> Way
-    requires { ⌜ Permutation (now way) ⌝ }
-    ensures { λ r. ⌜ r ≡ inverse (now (way .entry)) ⌝ }
-{
-    let mut back = [0usize; Code6250::TRACKS];
-    let mut k = 0;
-    while k < Code6250::TRACKS {
-        let from = way[k];
-        back[from] = k;
-        k += 1;
-    }
-    back
-}
+// Nine numbers below nine: a card, its inverse card, or a way.
+pub type Card = [u8; Code6250::TRACKS];
 
 // Puts nine words at the front of the target.
-pub fn arrange(way: &Way, source: &[u16], target: &mut [u16])
+pub fn arrange(way: &Card, source: &[u16], target: &mut [u16])
     requires { ⌜ Permutation (now way) × (length (now source) ≡ tracks) × (tracks ≤ length (now target)) ⌝ }
     ensures { λ _. ⌜ now (target .exit) ≡ arranged (now (way .entry)) (now (source .entry)) ++ drop tracks (now (target .entry)) ⌝ }
 {
     let mut k = 0;
     while k < Code6250::TRACKS {
-        let from = way[k];
+        let from = way[k] as usize;
         target[k] = source[from];
         k += 1;
     }
 }
 
 // The map whose nine bits are taken so, gathered from the highest down.
-pub fn arrange_bits(way: &Way, map: u16) -> u16
+pub fn arrange_bits(way: &Card, map: u16) -> u16
     requires { ⌜ Permutation (now way) ⌝ }
     ensures { λ r. ⌜ r ≡ arrangedMap (now (way .entry)) map ⌝ }
 {

@@ -1,18 +1,20 @@
-// Head order: numbers between the physical tracks of the head and the algebraic tracks of the code
-// (document 000, note 11; document 01, "Head order"). What is refused, and the calls; the crate arrangement moves.
-pub mod to_algebraic;
-pub mod to_physical;
+// Head order: numbers between the physical tracks of the head and the algebraic tracks of the code, by a wiring card
+// (document 02, request 2.4) or by the standard one, which has note 11's order (document 000; document 01, "Head order").
+// What is refused, and the calls; the crate arrangement moves.
+pub mod card;
+pub mod standard;
 mod ways;
 
 use answer::Reason;
 use answer::Refusal;
-use rectangular::Code6250;
+ghost use mathlib.Core.List.{List};
 ghost use mathlib.Core.Path.{_≡_};
-ghost use Rattle.track_order.specs.Moved.{wordsAnswer};
-ghost use Rattle.head_order.specs.Told.{toldWords};
+ghost use Prim.Native.Nat.{ℕ};
+ghost use Rattle.answer.specs.Answer.{refusedFor};
+ghost use Rattle.head_order.specs.Told.{toldStored};
 
-// What moving nine words answers.
-pub enum MovedWords {
+// What moving nine words answers, and inverting a card: what a delivery gives is stored in the lent numbers.
+pub enum Stored {
     Delivered,
     Refused(Refusal),
 }
@@ -23,28 +25,10 @@ pub enum MovedMap {
     Refused(Refusal),
 }
 
-// Refusals 1, 2 and 3, in this order, or the delivery.
-fn checked(source: &[u16], space: usize) -> MovedWords
-    ensures { λ r. ⌜ toldWords r ≡ wordsAnswer (now (source .entry)) space ⌝ }
-{
-    if source.len() != Code6250::TRACKS {
-        return MovedWords::Refused(Refusal {
-            reason: Reason::Length,
-            place: 0,
-        });
+impl Stored {
+    fn refused(reason: Reason, place: usize) -> Stored
+        ensures { λ r. ⌜ ((figures : List ℕ) → toldStored r figures ≡ refusedFor reason place) ⌝ }
+    {
+        Stored::Refused(Refusal { reason, place })
     }
-    if space < Code6250::TRACKS {
-        return MovedWords::Refused(Refusal {
-            reason: Reason::Space,
-            place: 0,
-        });
-    }
-    let place = slices::first_above(source, Code6250::MOST_WORD);
-    if place < Code6250::TRACKS {
-        return MovedWords::Refused(Refusal {
-            reason: Reason::StrayBits,
-            place,
-        });
-    }
-    MovedWords::Delivered
 }

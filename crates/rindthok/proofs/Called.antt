@@ -1,14 +1,17 @@
 -- A call from C whose answer, output and figures are those of the call in the library: what it promises follows.
 -- Assumes nothing.
 use mathlib.Core.Bool.{Bool, cond}
-use mathlib.Core.List.{List}
-use mathlib.Core.Path.{_≡_, sym, ap, ap₂, subst, _∙_}
+use mathlib.Core.List.{List, []}
+use mathlib.Core.Path.{_≡_, refl, sym, ap, ap₂, subst, _∙_}
 use Prim.Native.Nat.{ℕ}
 use native.Mathlib.Omega.{arith}
 use borrow.Author.Tests.{eq-eqb, ne-eqb}
 use lib.ListN.{length}
-use Rattle.answer.specs.Answer.{Answer, delivered, refused, outputAfter}
+use Rattle.answer.specs.Answer.{Answer, delivered, refused, outputAfter, figuresAfter}
 use Rattle.answer.proofs.Listed.{listed-positive}
+use Rattle.head_order.specs.declared.Stored.{Stored}
+use Rattle.head_order.specs.declared.Stored.the-variants as Stored
+use Rattle.head_order.specs.Told.{toldStored}
 use Rattle.terms.specs.Call.{Call, answerTo, resultOf}
 use Rattle.terms.specs.Terms.{FirstTerm}
 use Rattle.terms.proofs.Terms.{terms-hold}
@@ -39,3 +42,8 @@ module _ (call : Call) (answer : Answer) (before after figuresBefore figures : L
             terms-hold (answerFrom returned place figures) before after call (read ∙ answers)
             (stores ∙ ap (λ (a : Answer). outputAfter a (resultOf call) before) (sym read));
       }
+
+-- what is stored without a figure, as nine words are, leaves none
+pub no-figures : (a : Stored) → [] ≡ figuresAfter (toldStored a []) []
+no-figures Stored.Delivered = refl
+no-figures (Stored.Refused r) = refl

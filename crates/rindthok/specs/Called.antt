@@ -6,7 +6,7 @@ use mathlib.Core.Path.{_≡_}
 use Prim.Native.Nat.{ℕ}
 use lib.Dec.{eqb}
 use lib.ListN.{length}
-use Rattle.answer.specs.Answer.{Answer, delivered, refused, outputAfter}
+use Rattle.answer.specs.Answer.{Answer, delivered, refused, outputAfter, figuresAfter}
 use Rattle.terms.specs.Call.{Call, answerTo, resultOf}
 use Rattle.terms.specs.Terms.{Terms}
 
@@ -19,11 +19,6 @@ status (refused number place) = number
 abbrev pub placeTold : Answer → ℕ
 placeTold (delivered figures) = 0
 placeTold (refused number place) = place
-
--- the numbers that receive a delivery's figures, and that a refusal leaves
-abbrev pub figuresAfter : Answer → List ℕ → List ℕ
-figuresAfter (delivered figures) before = figures
-figuresAfter (refused number place) before = before
 
 -- what the caller is told of an answer; `before` and `after` are the figures
 pub record Told (answer : Answer) (before after : List ℕ) (returned place : ℕ) : Type 0 where

@@ -3,6 +3,7 @@
 // calls, `Called`: the answer, the figures that are stored, the output, and the notice's terms.
 mod at6250;
 mod at800;
+mod card;
 mod log;
 mod order;
 

@@ -4,16 +4,15 @@ use mathlib.Core.Bool.{Bool, true, cond, _&&_}
 use mathlib.Core.List.{List, [], _∷_}
 use mathlib.Core.Logic.{inl}
 use mathlib.Core.Path.{_≡_, sym, ap, subst}
-use Prim.Native.Nat.{ℕ, _+_, _-_, _*_, _≤_}
+use Prim.Native.Nat.{ℕ, suc, _+_, _-_, _*_, _≤_}
 use native.Mathlib.Omega.{arith}
-use borrow.Author.Tests.{ltb-true, leb-true, eqb-true}
+use borrow.Author.Tests.{ltb-true, eqb-true}
 use lib.Dec.{eqb, leb, ltb}
 use lib.ListN.{length}
 use Rattle.answer.specs.Answer.{Answer, delivered, refusedFor, outputAfter}
 use Rattle.slices.specs.Above.{firstAbove}
-use Rattle.answer.specs.declared.Reason.the-variants.{Length, Space, StrayBits, Padding, NoRecord, SeveralRecords, LogLength, LogContent}
+use Rattle.answer.specs.declared.Reason.the-variants.{Length, Space, StrayBits, Padding, NoRecord, SeveralRecords, LogLength, LogContent, CardContent, CardLength}
 use Rattle.answer.proofs.Listed.{Listed, listed-delivery, listed-at, listed-refusal, listed-choice}
-use Rattle.answer.proofs.Passed.{test-held}
 use Rattle.record6250.proofs.Answer as sixAnswer
 use Rattle.record6250.proofs.Record as sixRecord
 use Rattle.record6250.specs.Group.{reasonOf}
@@ -33,15 +32,18 @@ use Rattle.sense_log.specs.Back.{lengthSuits, contentSuits, readLogAnswer}
 use Rattle.sense_log.specs.Log.{logSpace}
 use Rattle.sense_log.specs.Written.{logged, logAnswer}
 use Rattle.track_order.proofs.Order.{length-arranged}
-use Rattle.track_order.specs.Moved.{wordsAnswer, mapAnswer}
-use Rattle.terms.specs.Call.{Call, write, read, log, readLog, moveWords, moveMap, answerTo, resultOf, places}
+use Rattle.track_order.proofs.Moved.{words-passed}
+use Rattle.track_order.specs.Card.{firstWrong}
+use Rattle.track_order.specs.Moved.{ifNineWords, ifNoStray, ifNineNumbers, ifNoneWrong, mapAnswer, cardWordsAnswer, cardMapAnswer, inverseAnswer}
+use Rattle.track_order.specs.Order.{way}
+use Rattle.terms.specs.Call.{Call, write, read, log, readLog, moveWords, moveMap, invertCard, answerTo, resultOf, cardPlaces, places}
 use Rattle.terms.specs.Reading.{bpi6250, bpi800, Reading, at6250, at800, Enough, Passes, Fits, writtenRecord, readAnswer, readData}
 use Rattle.terms.specs.Terms.{FirstTerm}
 use Rattle.terms.proofs.Third.{one-delivered, delivered-passes, delivered-one}
 
 -- ---- the refusals of each call
 
-module _ (bound : ℕ) where
+module _ (bound : ℕ → ℕ) where
   -- the first rows of the table: lengths, and space
   first-rows : (suits enough : Bool) (rest : Answer) → (suits ≡ true → Listed bound rest)
       → Listed bound (cond suits (cond enough rest (refusedFor Space 0)) (refusedFor Length 0))
@@ -50,27 +52,27 @@ module _ (bound : ℕ) where
       (λ s. listed-refusal bound Length)
 
   -- and the third: stray bits, told with a place
-  third-row : (place count : ℕ) → count ≤ bound → (rest : Answer) → Listed bound rest
+  third-row : (place count : ℕ) → count ≤ bound 3 → (rest : Answer) → Listed bound rest
       → Listed bound (cond (ltb place count) (refusedFor StrayBits place) rest)
   third-row place count within rest listed =
       listed-choice bound (ltb place count) _ _ (λ t. listed-at bound StrayBits place (inl (omega (arith, ltb-true place count t)))) (λ t. listed)
 
-listed-6250 : (backward : Bool) (words maps : List ℕ) → Listed (length maps) (six.judgedAnswer backward words maps)
+listed-6250 : (backward : Bool) (words maps : List ℕ) → Listed (λ n. length maps) (six.judgedAnswer backward words maps)
 unfolding six.judgedAnswer
 listed-6250 backward words maps =
-    listed-choice (length maps) (ltb (six.firstUnfit backward words maps) (length maps)) _ _
-    (λ t. listed-at (length maps) (reasonOf (six.judgement backward words maps (six.firstUnfit backward words maps)))
+    listed-choice (λ n. length maps) (ltb (six.firstUnfit backward words maps) (length maps)) _ _
+    (λ t. listed-at (λ n. length maps) (reasonOf (six.judgement backward words maps (six.firstUnfit backward words maps)))
     (six.firstUnfit backward words maps) (inl (ltb-true _ _ t)))
-    (λ t. listed-choice (length maps) (six.paddingSuits (six.readBody backward words maps)) _ _ (λ p. listed-delivery (length maps) _)
-    (λ p. listed-refusal (length maps) Padding))
+    (λ t. listed-choice (λ n. length maps) (six.paddingSuits (six.readBody backward words maps)) _ _ (λ p. listed-delivery (λ n. length maps) _)
+    (λ p. listed-refusal (λ n. length maps) Padding))
 
-listed-one-of : (bound n : ℕ) (characters tracks : List ℕ) → Listed bound (eight.oneOf n characters tracks)
+listed-one-of : (bound : ℕ → ℕ) (n : ℕ) (characters tracks : List ℕ) → Listed bound (eight.oneOf n characters tracks)
 unfolding eight.oneOf
 listed-one-of bound n characters [] = listed-refusal bound NoRecord
 listed-one-of bound n characters (j ∷ []) = listed-delivery bound _
 listed-one-of bound n characters (i ∷ j ∷ more) = listed-refusal bound SeveralRecords
 
-listed-800 : (bound n : ℕ) (characters : List ℕ) → Listed bound (eight.judgedAnswer n characters)
+listed-800 : (bound : ℕ → ℕ) (n : ℕ) (characters : List ℕ) → Listed bound (eight.judgedAnswer n characters)
 unfolding eight.judgedAnswer
 listed-800 bound n characters =
     listed-choice bound (eqb (eight.wrongCount n characters) 0) _ _
@@ -78,59 +80,82 @@ listed-800 bound n characters =
     (λ t. listed-one-of bound n characters _)
 
 -- whatever space is asked for
-listed-if : (backward : Bool) (words maps : List ℕ) (enough : Bool) → Listed (length maps) (six.answerIf backward words maps enough)
+listed-if : (backward : Bool) (words maps : List ℕ) (enough : Bool) → Listed (λ n. length maps) (six.answerIf backward words maps enough)
 unfolding six.answerIf
 listed-if backward words maps enough =
-    first-rows (length maps) (six.lengthsSuit (length words) (length maps)) enough _
-    (λ s. third-row (length maps) (six.firstStray backward words maps) (length maps) (omega arith) _ (listed-6250 backward words maps))
+    first-rows (λ n. length maps) (six.lengthsSuit (length words) (length maps)) enough _
+    (λ s. third-row (λ n. length maps) (six.firstStray backward words maps) (length maps) (omega arith) _ (listed-6250 backward words maps))
 
 listed-read : (r : Reading) (space : ℕ) → Listed (places (read r)) (readAnswer r space)
 unfolding readAnswer places six.readAnswer eight.readAnswer eight.answerIf
 listed-read (at6250 backward words maps) space = listed-if backward words maps (leb (7 * length maps - 1) space)
 listed-read (at800 backward characters) space =
-    first-rows (length characters) (eight.lengthSuits (length characters)) (leb (length characters - 2) space) _
-    (λ s. third-row (length characters) (eight.firstStray backward characters) (length characters) (omega arith) _
-    (listed-800 (length characters) (length characters - 2) (eight.picture backward characters)))
+    first-rows (λ n. length characters) (eight.lengthSuits (length characters)) (leb (length characters - 2) space) _
+    (λ s. third-row (λ n. length characters) (eight.firstStray backward characters) (length characters) (omega arith) _
+    (listed-800 (λ n. length characters) (length characters - 2) (eight.picture backward characters)))
 
 -- a log keeps the refusal of its reading, and reading one back has three of its own
-listed-logged : (bound size : ℕ) (answer : Answer) → Listed bound answer → Listed bound (logged size answer)
+listed-logged : (bound : ℕ → ℕ) (size : ℕ) (answer : Answer) → Listed bound answer → Listed bound (logged size answer)
 listed-logged bound size (Answer.delivered figures) listed = listed-delivery bound _
 listed-logged bound size (Answer.refused number place) listed = listed
 
-listed-log : (backward : Bool) (words maps : List ℕ) (space : ℕ) → Listed (length maps) (logAnswer backward words maps space)
+listed-log : (backward : Bool) (words maps : List ℕ) (space : ℕ) → Listed (λ n. length maps) (logAnswer backward words maps space)
 unfolding logAnswer
-listed-log backward words maps space = listed-logged (length maps) _ _ (listed-if backward words maps (leb (logSpace (length maps)) space))
+listed-log backward words maps space = listed-logged (λ n. length maps) _ _ (listed-if backward words maps (leb (logSpace (length maps)) space))
 
-listed-back : (groups : ℕ) (bytes : List ℕ) (space : ℕ) → Listed 0 (readLogAnswer groups bytes space)
+listed-back : (groups : ℕ) (bytes : List ℕ) (space : ℕ) → Listed (λ n. 0) (readLogAnswer groups bytes space)
 unfolding readLogAnswer
 listed-back groups bytes space =
-    listed-choice 0 (leb groups space) _ _
-    (λ room. listed-choice 0 (lengthSuits groups bytes) _ _
-    (λ suits. listed-choice 0 (contentSuits groups bytes) _ _ (λ good. listed-delivery 0 []) (λ bad. listed-refusal 0 LogContent))
-    (λ short. listed-refusal 0 LogLength))
-    (λ full. listed-refusal 0 Space)
+    listed-choice (λ n. 0) (leb groups space) _ _
+    (λ room. listed-choice (λ n. 0) (lengthSuits groups bytes) _ _
+    (λ suits. listed-choice (λ n. 0) (contentSuits groups bytes) _ _ (λ good. listed-delivery (λ n. 0) []) (λ bad. listed-refusal (λ n. 0) LogContent))
+    (λ short. listed-refusal (λ n. 0) LogLength))
+    (λ full. listed-refusal (λ n. 0) Space)
 
-listed-words : (source : List ℕ) (space : ℕ) → Listed (length source) (wordsAnswer source space)
-unfolding wordsAnswer
-listed-words source space =
-    first-rows (length source) (eqb (length source) 9) (leb 9 space) _
-    (λ s. third-row (length source) (firstAbove 1023 source) 9 (omega (arith, eqb-true (length source) 9 s)) _ (listed-delivery (length source) []))
+-- the words of a card's calls, and what is asked of the card before
+module _ (others : ℕ) where
+  listed-numbers : (card : List ℕ) (next : Answer) → Listed (cardPlaces others) next → Listed (cardPlaces others) (ifNineNumbers card next)
+  unfolding ifNineNumbers
+  listed-numbers card next listed =
+      listed-choice (cardPlaces others) (eqb (length card) 9) _ _ (λ t. listed) (λ t. listed-refusal (cardPlaces others) CardLength)
 
-listed-map : (moved : ℕ → ℕ) (m : ℕ) → Listed 0 (mapAnswer moved m)
-unfolding mapAnswer
-listed-map moved m = listed-choice 0 (leb m 511) _ _ (λ t. listed-delivery 0 _) (λ t. listed-refusal 0 StrayBits)
+  listed-right : (card : List ℕ) (next : Answer) → Listed (cardPlaces others) next → Listed (cardPlaces others) (ifNoneWrong card next)
+  unfolding ifNoneWrong cardPlaces
+  listed-right card next listed =
+      listed-choice (cardPlaces others) (ltb (firstWrong card) 9) _ _
+      (λ t. listed-at (cardPlaces others) CardContent (suc (firstWrong card)) (inl (omega (arith, ltb-true (firstWrong card) 9 t)))) (λ t. listed)
+
+listed-words : (card source : List ℕ) (space : ℕ) → Listed (cardPlaces (length source)) (cardWordsAnswer card source space)
+unfolding cardWordsAnswer ifNineWords ifNoStray cardPlaces
+listed-words card source space =
+    let places : ℕ → ℕ = cardPlaces (length source) in
+    listed-numbers (length source) card _
+    (first-rows places (eqb (length source) 9) (leb 9 space) _
+    (λ s. listed-right (length source) card _
+    (third-row places (firstAbove 1023 source) 9 (omega (arith, eqb-true (length source) 9 s)) _ (listed-delivery places []))))
+
+listed-map : (card : List ℕ) (moved : ℕ → ℕ) (m : ℕ) → Listed (cardPlaces 0) (cardMapAnswer card moved m)
+unfolding cardMapAnswer mapAnswer
+listed-map card moved m =
+    listed-numbers 0 card _ (listed-right 0 card _
+    (listed-choice (cardPlaces 0) (leb m 511) _ _ (λ t. listed-delivery (cardPlaces 0) _) (λ t. listed-refusal (cardPlaces 0) StrayBits)))
+
+listed-inverse : (card : List ℕ) → Listed (cardPlaces 0) (inverseAnswer card)
+unfolding inverseAnswer
+listed-inverse card = listed-numbers 0 card _ (listed-right 0 card _ (listed-delivery (cardPlaces 0) _))
 
 listed-answer : (call : Call) (space : ℕ) → Listed (places call) (answerTo call space)
 unfolding answerTo places sixWritten.writeAnswer eightWritten.writeAnswer
 listed-answer (write bpi6250 bytes) space =
-    first-rows 0 (leb (length bytes) sixConstants.mostData) (leb (9 * sixSpecs.groupsFor (length bytes)) space) _ (λ s. listed-delivery 0 _)
+    first-rows (λ n. 0) (leb (length bytes) sixConstants.mostData) (leb (9 * sixSpecs.groupsFor (length bytes)) space) _ (λ s. listed-delivery (λ n. 0) _)
 listed-answer (write bpi800 bytes) space =
-    first-rows 0 (leb 1 (length bytes) && leb (length bytes) eightConstants.mostData) (leb (length bytes + 2) space) _ (λ s. listed-delivery 0 _)
+    first-rows (λ n. 0) (leb 1 (length bytes) && leb (length bytes) eightConstants.mostData) (leb (length bytes + 2) space) _ (λ s. listed-delivery (λ n. 0) _)
 listed-answer (read r) space = listed-read r space
 listed-answer (log backward words maps) space = listed-log backward words maps space
 listed-answer (readLog groups bytes) space = listed-back groups bytes space
-listed-answer (moveWords way source) space = listed-words source space
-listed-answer (moveMap way m) space = listed-map _ m
+listed-answer (moveWords toward card source) space = listed-words card source space
+listed-answer (moveMap toward card m) space = listed-map card _ m
+listed-answer (invertCard card) space = listed-inverse card
 
 -- ---- the space of a delivery
 
@@ -146,11 +171,6 @@ read-within r space figures e =
     let one = delivered-one r space figures e in
     omega (arith, ap length (one-delivered r space passes (one .0) (one .1) .1), fit-within r space passes (one .0) (one .1 .fits))
 
-words-within : (source : List ℕ) (space : ℕ) (figures : List ℕ) → wordsAnswer source space ≡ delivered figures → 9 ≤ space
-unfolding wordsAnswer
-words-within source space figures e =
-    leb-true 9 space (test-held (leb 9 space) _ 2 0 figures (test-held (eqb (length source) 9) _ 1 0 figures e .1) .0)
-
 result-within : (call : Call) (space : ℕ) (figures : List ℕ) → answerTo call space ≡ delivered figures → length (resultOf call) ≤ space
 unfolding answerTo resultOf writtenRecord
 result-within (write bpi6250 bytes) space figures e =
@@ -162,8 +182,10 @@ result-within (log backward words maps) space figures e =
     omega (arith, reading-log-within backward words maps, log-passed backward words maps space figures e .1)
 result-within (readLog groups bytes) space figures e =
     omega (arith, length-mapsOf groups bytes, back-delivered groups bytes space figures e .0)
-result-within (moveWords way source) space figures e = omega (arith, length-arranged way source, words-within source space figures e)
-result-within (moveMap way m) space figures e = omega arith
+result-within (moveWords toward card source) space figures e =
+    omega (arith, length-arranged (way toward card) source, words-passed source space card figures e .2)
+result-within (moveMap toward card m) space figures e = omega arith
+result-within (invertCard card) space figures e = omega arith
 
 -- ---- the first term, of any answer and output that are the call's
 

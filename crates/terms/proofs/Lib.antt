@@ -1,5 +1,6 @@
 pub mod Third
 pub mod Logged
+pub mod Moved
 pub mod Second
 pub mod First
 pub mod Terms

@@ -5,11 +5,12 @@ use mathlib.Core.Path.{_≡_, refl, sym, ap, _∙_}
 use Prim.Native.Nat.{ℕ}
 use lib.ListN.{length}
 use Rattle.answer.specs.Answer.{Answer, refused, outputAfter}
-use Rattle.terms.specs.Call.{Call, write, read, log, readLog, moveWords, moveMap, answerTo, resultOf}
+use Rattle.terms.specs.Call.{Call, write, read, log, readLog, moveWords, moveMap, invertCard, answerTo, resultOf}
 use Rattle.terms.specs.Terms.{SecondTerm, ThirdTerm, Terms}
 use Rattle.terms.proofs.First.{ends}
 use Rattle.terms.proofs.Second.{writes, reads}
 use Rattle.terms.proofs.Logged.{logs, logs-again, log-decides}
+use Rattle.terms.proofs.Moved.{moves-words, moves-map, inverts}
 use Rattle.terms.proofs.Third.{read-decides}
 
 module _ (answer : Answer) (before after : List ℕ) where
@@ -20,8 +21,9 @@ module _ (answer : Answer) (before after : List ℕ) where
   second-term (read r) answers stores = reads r answer before after answers stores
   second-term (log backward words maps) answers stores = logs backward words maps answer before after answers stores
   second-term (readLog groups bytes) answers stores = logs-again groups bytes answer before after answers stores
-  second-term (moveWords way source) answers stores = tt
-  second-term (moveMap way m) answers stores = tt
+  second-term (moveWords toward card source) answers stores = moves-words toward card source answer before after answers stores
+  second-term (moveMap toward card m) answers stores = moves-map toward card m answer answers
+  second-term (invertCard card) answers stores = inverts card answer answers
 
   third-term : (call : Call) → answer ≡ answerTo call (length before) → after ≡ outputAfter answer (resultOf call) before
       → ThirdTerm call answer before after
@@ -30,8 +32,9 @@ module _ (answer : Answer) (before after : List ℕ) where
   third-term (read r) answers stores = read-decides r answer before after answers stores
   third-term (log backward words maps) answers stores = log-decides backward words maps answer before after answers stores
   third-term (readLog groups bytes) answers stores = tt
-  third-term (moveWords way source) answers stores = tt
-  third-term (moveMap way m) answers stores = tt
+  third-term (moveWords toward card source) answers stores = tt
+  third-term (moveMap toward card m) answers stores = tt
+  third-term (invertCard card) answers stores = tt
 
   pub terms-hold : (call : Call) → answer ≡ answerTo call (length before) → after ≡ outputAfter answer (resultOf call) before
       → Terms call answer before after

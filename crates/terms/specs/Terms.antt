@@ -19,7 +19,11 @@ use Rattle.register.specs.Bit.{bit}
 use Rattle.sense_log.specs.Back.{readLogAnswer, mapsOf}
 use Rattle.sense_log.specs.Log.{logSpace, logOf}
 use Rattle.sense_log.specs.Written.{logAnswer, readingLog}
-use Rattle.terms.specs.Call.{Call, write, read, log, readLog, moveWords, moveMap, resultOf, places}
+use Rattle.track_order.specs.declared.Toward.{Toward}
+use Rattle.track_order.specs.Card.{InverseCard}
+use Rattle.track_order.specs.Moved.{cardWordsAnswer, cardMapAnswer, inverseAnswer}
+use Rattle.track_order.specs.Order.{back, movedWords, movedMap}
+use Rattle.terms.specs.Call.{Call, write, read, log, readLog, moveWords, moveMap, invertCard, resultOf, places}
 use Rattle.terms.specs.Reading.{Density, bpi6250, bpi800, Reading, at6250, density, isBackward, received, IsData, writtenRecord, turned, undamaged, Enough, Passes, Fits, OneFits, told, unchanged, lengthTold, changesTold, readAnswer, readData}
 
 -- ---- the first term
@@ -31,7 +35,7 @@ unfoldable pub FirstTerm : Call → Answer → List ℕ → List ℕ → Type 0
 FirstTerm call (delivered figures) before after =
     (length (resultOf call) ≤ length before) × (after ≡ resultOf call ++ drop (length (resultOf call)) before)
 FirstTerm call (refused number place) before after =
-    List·Memᴰ number refusals × ((place < places call) ⊎ (place ≡ 0)) × (after ≡ before)
+    List·Memᴰ number refusals × ((place < places call number) ⊎ (place ≡ 0)) × (after ≡ before)
 
 -- ---- the second term
 
@@ -74,13 +78,31 @@ unfoldable pub LogsAgain : ℕ → List ℕ → Answer → List ℕ → Type 0
 LogsAgain groups bytes answer after =
     ((k : ℕ) → getD bytes k 0 < 256) → (figures : List ℕ) → answer ≡ delivered figures → logOf (take groups after) ≡ bytes
 
+-- Of nine words that are moved by a card (document 02, request 2.4: "moving nine words or a map out and back, unrefused, restores them"): what is
+-- stored, moved the other way by the same card, is delivered and gives the words; and so with a map that is told.
+unfoldable pub RestoresWords : Toward → List ℕ → List ℕ → Answer → List ℕ → Type 0
+RestoresWords toward card source answer after =
+    (figures : List ℕ) → answer ≡ delivered figures → (space : ℕ) → tracks ≤ space
+    → (cardWordsAnswer card (take tracks after) space ≡ delivered []) × (movedWords (back toward) card (take tracks after) ≡ source)
+
+unfoldable pub RestoresMap : Toward → List ℕ → ℕ → Answer → Type 0
+RestoresMap toward card m answer =
+    (figures : List ℕ) → answer ≡ delivered figures → cardMapAnswer card (movedMap (back toward) card) (getD figures 0 0) ≡ delivered (m ∷ [])
+
+-- Of a card that is inverted: what is told is an inverse card of it, no other list is, and the card is told of that one in turn.
+pub record OneInverse (card figures : List ℕ) : Type 0 where
+  pub is-inverse : InverseCard card figures
+  pub only-inverse : (others : List ℕ) → InverseCard card others → others ≡ figures
+  pub inverted-back : inverseAnswer figures ≡ delivered card
+
 unfoldable pub SecondTerm : Call → Answer → List ℕ → List ℕ → Type 0
 SecondTerm (write d bytes) answer before after = Writes d bytes answer before after
 SecondTerm (read r) answer before after = Reads r answer before after
 SecondTerm (log backward words maps) answer before after = Logs backward words maps answer before after
 SecondTerm (readLog groups bytes) answer before after = LogsAgain groups bytes answer after
-SecondTerm (moveWords way source) answer before after = Unit
-SecondTerm (moveMap way m) answer before after = Unit
+SecondTerm (moveWords toward card source) answer before after = RestoresWords toward card source answer after
+SecondTerm (moveMap toward card m) answer before after = RestoresMap toward card m answer
+SecondTerm (invertCard card) answer before after = (figures : List ℕ) → answer ≡ delivered figures → OneInverse card figures
 
 -- ---- the third term
 
@@ -118,8 +140,9 @@ ThirdTerm (read r) answer before after = Passes r (length before) → DecidesRea
 ThirdTerm (log backward words maps) answer before after =
     six.Passes backward words maps → logSpace (length maps) ≤ length before → DecidesLog backward words maps answer before after
 ThirdTerm (readLog groups bytes) answer before after = Unit
-ThirdTerm (moveWords way source) answer before after = Unit
-ThirdTerm (moveMap way m) answer before after = Unit
+ThirdTerm (moveWords toward card source) answer before after = Unit
+ThirdTerm (moveMap toward card m) answer before after = Unit
+ThirdTerm (invertCard card) answer before after = Unit
 
 -- "Exactly one record" is said of data, since a written record has one list of data.
 unfoldable pub OneData : Density → Type 0

@@ -1,3 +1,5 @@
 pub mod Order
+pub mod Card
+pub mod Rows
 pub mod Moved
 pub mod Restored

@@ -1,27 +1,16 @@
--- Note 11's order is a permutation, a permutation's inverse is one too, and what is arranged by both in turn is restored.
+-- A permutation's inverse is one too, and what is arranged by both in turn is restored.
 -- Assumes nothing.
-use mathlib.Core.Path.{_≡_, refl, sym, ap, subst, _∙_}
+use mathlib.Core.Path.{_≡_, sym, ap, subst, _∙_}
 use mathlib.Core.List.{List}
 use Prim.Native.Nat.{ℕ, _<_}
 use native.Mathlib.Omega.{arith}
 use borrow.Author.Tests.{eq-eqb, ne-eqb, eqb-true}
-use lib.Dec.{eqb, ltb, eqb→eq, ltb→lt}
+use lib.Dec.{eqb}
 use lib.ListN.{length, getD}
 use lib.Seq.{ext-getD}
-use Rattle.indexed.specs.List.{firstWhere}
-use Rattle.indexed.proofs.Test.{tested}
 use Rattle.indexed.proofs.First.{first-at, first-passes}
 use Rattle.indexed.proofs.Tabulate.{length-tabulate, getD-tabulate}
-use Rattle.track_order.specs.Order.{order, indexIn, inverse, Permutation, arranged}
-
-pub order-permutation : Permutation order
-unfolding order indexIn firstWhere
-order-permutation = record {
-  nine = refl;
-  below = λ k h. ltb→lt _ _ (tested 9 (λ k. ltb (getD order k 0) 9) tt k h);
-  once = λ k h. eqb→eq _ _ (tested 9 (λ k. eqb (indexIn order (getD order k 0)) k) tt k h);
-  onto = λ a h. ltb→lt _ _ (tested 9 (λ a. ltb (indexIn order a) 9) tt a h);
-}
+use Rattle.track_order.specs.Order.{indexIn, inverse, Permutation, arranged}
 
 -- ---- nine elements at their places
 
@@ -52,7 +41,7 @@ module _ (places : List ℕ) (p : Permutation places) where
   unfolding inverse
   getD-inverse a h = getD-tabulate 9 _ a 0 h
 
-  inverse-below : (a : ℕ) → a < 9 → getD (inverse places) a 0 < 9
+  pub inverse-below : (a : ℕ) → a < 9 → getD (inverse places) a 0 < 9
   inverse-below a h = rw (getD-inverse a h) (p .onto a h)
 
   index-inverse : (k : ℕ) → k < 9 → indexIn (inverse places) k ≡ getD places k 0

@@ -1,16 +1,24 @@
--- What is moved out and back is restored: nine words, and a pointer map.
+-- What is moved out and back by a good card is restored, nine words and a pointer map, whichever order they are moved to first; and what is
+-- moved back by a card is moved out by its inverse.
 -- Assumes nothing.
-use mathlib.Core.Path.{_≡_, ap, _∙_}
+use mathlib.Core.Path.{_≡_, refl, sym, ap, _∙_}
 use mathlib.Core.List.{List}
-use Prim.Native.Nat.{ℕ, _<_}
+use Prim.Native.Nat.{ℕ, _<_, _≤_}
 use native.Mathlib.Nat.{zero-lt-suc}
 use native.Mathlib.Decide.{decLt}
 use native.Mathlib.Omega.{arith}
+use lib.Dec.{ltb}
 use lib.ListN.{length, getD, List·getD-eq-default}
+use Rattle.indexed.proofs.First.{first-none, first-before}
 use Rattle.register.specs.Bit.{bitsOf, ofBits}
-use Rattle.register.proofs.Bit.{Digits, length-bitsOf, digits-bitsOf, ofBits-bitsOf, bitsOf-ofBits}
-use Rattle.track_order.specs.Order.{order, inverse, Permutation, arranged, arrangedMap, toPhysical, toAlgebraic, mapToPhysical, mapToAlgebraic}
-use Rattle.track_order.proofs.Order.{order-permutation, length-arranged, getD-arranged, inverse-permutation, inverse-inverse, out-and-back}
+use Rattle.register.proofs.Bit.{Digits, length-bitsOf, digits-bitsOf, ofBits-bitsOf, bitsOf-ofBits, ofBits-lt}
+use Rattle.slices.specs.Above.{firstAbove}
+use Rattle.track_order.specs.declared.Toward.{Toward}
+use Rattle.track_order.specs.declared.Toward.the-variants.{Physical, Algebraic}
+use Rattle.track_order.specs.Card.{Good}
+use Rattle.track_order.specs.Order.{inverse, Permutation, arranged, arrangedMap, way, back, movedWords, movedMap}
+use Rattle.track_order.proofs.Card.{good-permutation}
+use Rattle.track_order.proofs.Order.{length-arranged, getD-arranged, inverse-permutation, inverse-inverse, out-and-back}
 
 -- the nine bits of a map, arranged, are nine bits
 pub arranged-digits : (places : List ℕ) (m : ℕ) → Digits (arranged places (bitsOf 9 m))
@@ -22,6 +30,10 @@ arranged-digits places m k = by (decLt k 9)
         rw (List·getD-eq-default (arranged places (bitsOf 9 m)) 0 {n = k} (omega (arith, length-arranged places (bitsOf 9 m))))
         (zero-lt-suc 1)
 
+pub arranged-map-lt : (places : List ℕ) (m : ℕ) → arrangedMap places m < 512
+unfolding arrangedMap
+arranged-map-lt places m = rw (length-arranged places (bitsOf 9 m)) at (ofBits-lt (arranged places (bitsOf 9 m)) (arranged-digits places m))
+
 -- nine bits out and back
 map-out-and-back : (places : List ℕ) → Permutation places → (m : ℕ) → m < 512 → arrangedMap (inverse places) (arrangedMap places m) ≡ m
 unfolding arrangedMap
@@ -31,18 +43,40 @@ map-out-and-back places p m h =
     ∙ ap ofBits (out-and-back places p (bitsOf 9 m) (length-bitsOf 9 m))
     ∙ ofBits-bitsOf 9 m h
 
--- from code order to head order and back
-pub words-physical-and-back : (words : List ℕ) → length words ≡ 9 → toAlgebraic (toPhysical words) ≡ words
-words-physical-and-back = out-and-back order order-permutation
+module _ (card : List ℕ) (good : Good card) where
+  pub way-permutation : (toward : Toward) → Permutation (way toward card)
+  way-permutation Physical = good-permutation card good
+  way-permutation Algebraic = inverse-permutation card (good-permutation card good)
 
-pub map-physical-and-back : (m : ℕ) → m < 512 → mapToAlgebraic (mapToPhysical m) ≡ m
-map-physical-and-back = map-out-and-back order order-permutation
+  -- the way back is the inverse of the way out, the card being the inverse of its inverse
+  pub way-back : (toward : Toward) → way (back toward) card ≡ inverse (way toward card)
+  way-back Physical = refl
+  way-back Algebraic = sym (inverse-inverse card (good-permutation card good))
 
--- and the other way, the order being the inverse of its inverse
-pub words-algebraic-and-back : (words : List ℕ) → length words ≡ 9 → toPhysical (toAlgebraic words) ≡ words
-words-algebraic-and-back words nine =
-    rw (inverse-inverse order order-permutation) at (out-and-back (inverse order) (inverse-permutation order order-permutation) words nine)
+  -- and the way by the inverse card
+  pub way-inverse : (toward : Toward) → way toward (inverse card) ≡ way (back toward) card
+  way-inverse Physical = refl
+  way-inverse Algebraic = inverse-inverse card (good-permutation card good)
 
-pub map-algebraic-and-back : (m : ℕ) → m < 512 → mapToPhysical (mapToAlgebraic m) ≡ m
-map-algebraic-and-back m h =
-    rw (inverse-inverse order order-permutation) at (map-out-and-back (inverse order) (inverse-permutation order order-permutation) m h)
+  module _ (toward : Toward) where
+    pub words-restored : (words : List ℕ) → length words ≡ 9 → movedWords (back toward) card (movedWords toward card words) ≡ words
+    words-restored words nine =
+        ap (λ (w : List ℕ). arranged w (movedWords toward card words)) (way-back toward)
+        ∙ out-and-back (way toward card) (way-permutation toward) words nine
+
+    pub map-restored : (m : ℕ) → m < 512 → movedMap (back toward) card (movedMap toward card m) ≡ m
+    map-restored m h =
+        ap (λ (w : List ℕ). arrangedMap w (movedMap toward card m)) (way-back toward)
+        ∙ map-out-and-back (way toward card) (way-permutation toward) m h
+
+    -- words without stray bits have none where they are moved to
+    pub none-stray-moved : (source : List ℕ) → length source ≡ 9 → 9 ≤ firstAbove 1023 source → 9 ≤ firstAbove 1023 (movedWords toward card source)
+    unfolding firstAbove
+    none-stray-moved source nine none =
+        omega (
+          arith,
+          first-none (λ v. ltb 1023 v) (movedWords toward card source) 9 (sym (length-arranged (way toward card) source))
+              (λ k h. let place = way-permutation toward .below k h in
+              ap (ltb 1023) (getD-arranged (way toward card) source k h)
+              ∙ first-before (λ v. ltb 1023 v) source (getD (way toward card) k 0) (omega arith)),
+        )

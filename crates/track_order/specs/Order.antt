@@ -9,10 +9,12 @@ use lib.ListN.{length, getD}
 use Rattle.indexed.specs.List.{tabulate, firstWhere}
 use Rattle.register.specs.Bit.{bitsOf, ofBits}
 use Rattle.rectangular.specs.Constants.{tracks}
+use Rattle.track_order.specs.declared.Toward.{Toward}
+use Rattle.track_order.specs.declared.Toward.the-variants.{Physical, Algebraic}
 
--- note 11: the algebraic tracks on physical tracks 1 to 9, the P track being 8
-unfoldable pub order : List ℕ
-order = 1 ∷ 4 ∷ 7 ∷ 8 ∷ 3 ∷ 6 ∷ 0 ∷ 2 ∷ 5 ∷ []
+-- the standard card: for physical tracks 1 to 9 the algebraic track by note 11, the P track being 8
+unfoldable pub standardCard : List ℕ
+standardCard = 1 ∷ 4 ∷ 7 ∷ 8 ∷ 3 ∷ 6 ∷ 0 ∷ 2 ∷ 5 ∷ []
 
 -- the index at which a number first stands
 unfoldable pub indexIn : List ℕ → ℕ → ℕ
@@ -37,16 +39,19 @@ arranged places elements = tabulate tracks (λ k. getD elements (getD places k 0
 unfoldable pub arrangedMap : List ℕ → ℕ → ℕ
 arrangedMap places m = ofBits (arranged places (bitsOf tracks m))
 
--- from code order to head order: nine elements, and a map
-abbrev pub toPhysical : List ℕ → List ℕ
-toPhysical = arranged order
+-- the way to an order: for each of its nine places, the place to take from. To the head's order it is the card, to the code's the card's
+-- inverse.
+abbrev pub way : Toward → List ℕ → List ℕ
+way Physical card = card
+way Algebraic card = inverse card
 
-abbrev pub mapToPhysical : ℕ → ℕ
-mapToPhysical = arrangedMap order
+abbrev pub back : Toward → Toward
+back Physical = Algebraic
+back Algebraic = Physical
 
--- from head order to code order
-abbrev pub toAlgebraic : List ℕ → List ℕ
-toAlgebraic = arranged (inverse order)
+-- nine words, and a pointer map, moved by a card
+abbrev pub movedWords : Toward → List ℕ → List ℕ → List ℕ
+movedWords toward card words = arranged (way toward card) words
 
-abbrev pub mapToAlgebraic : ℕ → ℕ
-mapToAlgebraic = arrangedMap (inverse order)
+abbrev pub movedMap : Toward → List ℕ → ℕ → ℕ
+movedMap toward card m = arrangedMap (way toward card) m

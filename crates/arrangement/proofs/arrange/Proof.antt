@@ -24,11 +24,11 @@ abbrev μ-loop : tie.MeasureT-loop
 loop-holds : tie.Need-loop-holds Inv-loop μ-loop
 loop-holds c = search needs
 
-mul-from : tie.Need-mul-from Inv-loop μ-loop
-mul-from c = search needs
-
 element-copy-out-from : tie.Need-element-copy-out-from Inv-loop μ-loop
 element-copy-out-from c = search needs
+
+cast-from : tie.Need-cast-from Inv-loop μ-loop
+cast-from c = omega (arith, c .before .before .before .pre .0 .below _ (c .before .loop-test .taken))
 
 mul-target : tie.Need-mul-target Inv-loop μ-loop
 mul-target c = omega (arith, c .before .before .before .pre .0 .below _ (c .before .loop-test .taken))
@@ -82,8 +82,8 @@ arrange-spec =
     Inv-loop
     μ-loop
     loop-holds
-    mul-from
     element-copy-out-from
+    cast-from
     mul-target
     shared-slice-read-target
     mul-target-2

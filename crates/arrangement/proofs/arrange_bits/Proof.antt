@@ -52,9 +52,6 @@ loop-holds c = (search needs, sym (gathered-none _ _))
 sub-k : tie.Need-sub-k Inv-loop μ-loop
 sub-k c = search needs
 
-mul-from : tie.Need-mul-from Inv-loop μ-loop
-mul-from c = omega arith
-
 element-copy-out-from : tie.Need-element-copy-out-from Inv-loop μ-loop
 element-copy-out-from c = omega arith
 
@@ -104,7 +101,6 @@ arrange-bits-spec =
     μ-loop
     loop-holds
     sub-k
-    mul-from
     element-copy-out-from
     mul-moved
     cast-moved

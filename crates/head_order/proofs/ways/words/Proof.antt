@@ -1,12 +1,14 @@
 -- `head_order::ways::words` meets its contract, by what `checked` and `arrange` ensure.
 -- Assumes nothing.
+use mathlib.Core.List.{[]}
 use borrow.Author.Needs.{needs}
 use denote.Ref.{now}
+use lib.ListN.{length}
 use Rattle.track_order.specs.Order.{arranged}
+use Rattle.track_order.proofs.Moved.{sizes-passed}
 use Rattle.track_order.proofs.Order.{length-arranged}
-use Rattle.terms.proofs.Terms.{with-terms}
-use Rattle.terms.specs.Call.{moveWords, answerTo, resultOf}
-use Rattle.head_order.proofs.Moved.{delivered-sizes, delivered-output, refused-output}
+use Rattle.track_order.specs.Moved.{wordsAnswer}
+use Rattle.head_order.proofs.Output.{delivered-told, delivered-output, refused-output}
 use Rattle.head_order.proofs.ways.words.Statement.{statement}
 use Rattle.head_order.proofs.ways.words.Tie as tie
 
@@ -17,9 +19,11 @@ enum-told : tie.Need-enum-told
 enum-told c = search needs
 
 arrange-requires : tie.Need-arrange-requires
+unfolding wordsAnswer
 arrange-requires c κs =
     let called = c .before .before .before .checked in
-    let sizes = delivered-sizes _ _ (called .result) (c .before .enum-told .given .1) (called .ensures) in
+    let args = c .before .before .before .before .before .before .args in
+    let sizes = sizes-passed (length (now (args .source))) (length (now (args .target))) _ _ (delivered-told (called .result) [] _ (c .before .enum-told .given .1) (called .ensures)) in
     (c .before .before .before .before .before .before .pre, sizes .0, sizes .1)
 
 enum-told-2 : tie.Need-enum-told-2
@@ -29,21 +33,21 @@ same-length : tie.Need-same-length
 same-length c = search needs
 
 returns : tie.Need-returns
-unfolding answerTo resultOf
 returns c =
     let called = c .before .before .before .before .before .before .checked in
     let args = c .before .before .before .before .before .before .before .before .before .args in
-    with-terms _ _ _ (moveWords (now (args .way)) (now (args .source))) (called .ensures)
-    (delivered-output (arranged (now (args .way)) (now (args .source))) (now (args .target)) _ (length-arranged (now (args .way)) (now (args .source)))
-    (called .result) (c .before .before .before .before .enum-told .given .1) (c .before .before .arrange .ensures))
+    let moved = arranged (now (args .way)) (now (args .source)) in (
+      called .ensures,
+      delivered-output moved (now (args .target)) _ [] (length-arranged (now (args .way)) (now (args .source))) (called .result)
+          (c .before .before .before .before .enum-told .given .1) (c .before .before .arrange .ensures),
+    )
 
 returns-2 : tie.Need-returns-2
-unfolding answerTo resultOf
 returns-2 c =
     let called = c .before .before .checked in
     let args = c .before .before .before .before .before .args in
-    with-terms _ _ _ (moveWords (now (args .way)) (now (args .source))) (called .ensures)
-    (refused-output (arranged (now (args .way)) (now (args .source))) (now (args .target)) (called .result) _ (c .enum-told2 .given .1))
+    let moved = arranged (now (args .way)) (now (args .source)) in
+    (called .ensures, refused-output moved (now (args .target)) [] (called .result) _ (c .enum-told2 .given .1))
 
 pub words-spec : {M : Type 1} → statement M
 words-spec =
