@@ -72,4 +72,30 @@ extern "C" {
     pub fn rindthok_map_to_physical(map: u16, moved: *mut u16, place: *mut usize) -> u16;
     #[allow(dead_code)]
     pub fn rindthok_map_to_algebraic(map: u16, moved: *mut u16, place: *mut usize) -> u16;
+    #[allow(dead_code)]
+    pub fn rindthok_card_words_to_physical(
+        card: *const u8,
+        card_length: usize,
+        source: *const u16,
+        sources: usize,
+        target: *mut u16,
+        targets: usize,
+        place: *mut usize,
+    ) -> u16;
+    #[allow(dead_code)]
+    pub fn rindthok_card_words_to_algebraic(
+        card: *const u8,
+        card_length: usize,
+        source: *const u16,
+        sources: usize,
+        target: *mut u16,
+        targets: usize,
+        place: *mut usize,
+    ) -> u16;
+    #[allow(dead_code)]
+    pub fn rindthok_card_map_to_physical(card: *const u8, card_length: usize, map: u16, moved: *mut u16, place: *mut usize) -> u16;
+    #[allow(dead_code)]
+    pub fn rindthok_card_map_to_algebraic(card: *const u8, card_length: usize, map: u16, moved: *mut u16, place: *mut usize) -> u16;
+    #[allow(dead_code)]
+    pub fn rindthok_inverse_card(card: *const u8, card_length: usize, inverse: *mut u8, place: *mut usize) -> u16;
 }

@@ -25,6 +25,16 @@ pub enum Toward {
     Algebraic,
 }
 
+impl Toward {
+    /// The other way.
+    pub fn back(self) -> Toward {
+        match self {
+            Toward::Physical => Toward::Algebraic,
+            Toward::Algebraic => Toward::Physical,
+        }
+    }
+}
+
 #[derive(Clone, Copy, Debug)]
 pub enum Direction {
     Forward,
@@ -49,6 +59,34 @@ pub fn map(toward: Toward, map: u16, moved: &mut u16) -> Answer {
     };
     let status = unsafe { call(map, moved, &mut place) };
     answer(status, place, || vec![u64::from(*moved)])
+}
+
+pub fn card_words(toward: Toward, card: &[u8], source: &[u16], target: &mut [u16]) -> Answer {
+    let mut place = usize::MAX;
+    let call = match toward {
+        Toward::Physical => rindthok_card_words_to_physical,
+        Toward::Algebraic => rindthok_card_words_to_algebraic,
+    };
+    let (by, from, to) = (given(card), given(source), target.as_mut_ptr());
+    let status = unsafe { call(by, card.len(), from, source.len(), to, target.len(), &mut place) };
+    answer(status, place, || vec![])
+}
+
+pub fn card_map(toward: Toward, card: &[u8], map: u16, moved: &mut u16) -> Answer {
+    let mut place = usize::MAX;
+    let call = match toward {
+        Toward::Physical => rindthok_card_map_to_physical,
+        Toward::Algebraic => rindthok_card_map_to_algebraic,
+    };
+    let status = unsafe { call(given(card), card.len(), map, moved, &mut place) };
+    answer(status, place, || vec![u64::from(*moved)])
+}
+
+/// A delivery has the inverse card's nine numbers, and tells nothing more.
+pub fn inverse_card(card: &[u8], inverse: &mut [u8; 9]) -> Answer {
+    let mut place = usize::MAX;
+    let status = unsafe { rindthok_inverse_card(given(card), card.len(), inverse.as_mut_ptr(), &mut place) };
+    answer(status, place, || vec![])
 }
 
 pub fn write6250(bytes: &[u8], words: &mut [u16]) -> Answer {

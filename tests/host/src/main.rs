@@ -3,6 +3,7 @@
 
 mod abi;
 mod bench;
+mod card;
 mod damage6250;
 mod damage800;
 mod damage_log;
@@ -105,17 +106,28 @@ fn stray(seeded: &mut Seeded, words: &mut [u16]) {
     }
 }
 
+/// Nine words mostly, or another number of them, with stray ones among them once in a while.
+fn random_source(seeded: &mut Seeded) -> Vec<u16> {
+    let count = if seeded.once_in(8) { seeded.below(20) } else { 9 };
+    let mut source: Vec<u16> = (0..count).map(|_| seeded.below(1024) as u16).collect();
+    if count > 0 && seeded.once_in(4) {
+        stray(seeded, &mut source);
+    }
+    source
+}
+
+/// Space for nine words, somewhat more, or less.
+fn random_space(seeded: &mut Seeded) -> usize {
+    (if seeded.once_in(8) { seeded.below(9) } else { 9 + seeded.below(4) }) as usize
+}
+
 fn random_words(toward: Toward) -> Tried {
     let mut seeded = Seeded(212);
     let mut tried = Tried::default();
     for _ in 0..200_000 {
         tried.cases += 1;
-        let count = if seeded.once_in(8) { seeded.below(20) } else { 9 };
-        let mut source: Vec<u16> = (0..count).map(|_| seeded.below(1024) as u16).collect();
-        if count > 0 && seeded.once_in(4) {
-            stray(&mut seeded, &mut source);
-        }
-        let space = if seeded.once_in(8) { seeded.below(9) } else { 9 + seeded.below(4) } as usize;
+        let source = random_source(&mut seeded);
+        let space = random_space(&mut seeded);
         let mut target = vec![LENT; space + BEHIND];
         let mut after = vec![LENT; space + BEHIND];
         let got = library::words(toward, &source, &mut target[..space]);
@@ -226,8 +238,29 @@ fn suites_of_head_order() -> Vec<Suite> {
     ])
 }
 
+fn suites_of_cards() -> Vec<Suite> {
+    named([
+        ("the card calls of these tests, outside cases", card::outside_cases()),
+        ("words and maps by every card, to physical and back", card::every_card(Toward::Physical)),
+        ("words and maps by every card, to algebraic and back", card::every_card(Toward::Algebraic)),
+        ("the inverse of every card", card::every_inverse()),
+        ("every map by some cards, to physical", card::every_map(Toward::Physical)),
+        ("every map by some cards, to algebraic", card::every_map(Toward::Algebraic)),
+        ("every number on every track of a card", card::every_number()),
+        ("cards of every length up to 20, and of two more", card::every_length()),
+        ("seeded words by seeded cards, to physical", card::random_words(Toward::Physical)),
+        ("seeded words by seeded cards, to algebraic", card::random_words(Toward::Algebraic)),
+        ("seeded maps by seeded cards, to physical", card::random_maps(Toward::Physical)),
+        ("seeded maps by seeded cards, to algebraic", card::random_maps(Toward::Algebraic)),
+        ("inverses of seeded cards", card::random_inverses()),
+        ("the standard card and none, to physical", card::standard_card(Toward::Physical)),
+        ("the standard card and none, to algebraic", card::standard_card(Toward::Algebraic)),
+    ])
+}
+
 fn main() {
-    let suites: Vec<Suite> = [outside_cases(), suites_at_6250(), suites_of_the_log(), suites_at_800(), suites_of_head_order()].into_iter().flatten().collect();
+    let parts = [outside_cases(), suites_at_6250(), suites_of_the_log(), suites_at_800(), suites_of_head_order(), suites_of_cards()];
+    let suites: Vec<Suite> = parts.into_iter().flatten().collect();
     let mut failed = 0;
     for (name, tried) in &suites {
         println!("{name}: {} cases, {} differ", tried.cases, tried.wrong.len());

@@ -112,6 +112,11 @@ pub type Reader800 = fn(Direction, &[u16], &mut [u8]) -> Answer;
 /// The same for writers.
 pub type Writer = fn(&[u8], &mut [u16]) -> Answer;
 
+/// The same for the calls by a wiring card.
+pub type CardWords = fn(Toward, &[u8], &[u16], &mut [u16]) -> Answer;
+pub type CardMap = fn(Toward, &[u8], u16, &mut u16) -> Answer;
+pub type InverseCard = fn(&[u8], &mut [u8; 9]) -> Answer;
+
 /// Runs one case of writing with a writer, where so many numbers are one of what a delivery counts.
 fn write(line: &str, writer: Writer, numbers: usize) -> Result<(), String> {
     let fields = fields_of(line);
@@ -169,6 +174,33 @@ fn map(line: &str, toward: Toward) -> Result<(), String> {
     compare(got, want, &[moved], &[after])
 }
 
+/// Runs one case of moving nine words by a card and tells what differs.
+pub fn card_words(line: &str, toward: Toward, call: CardWords) -> Result<(), String> {
+    let fields = fields_of(line);
+    let space: usize = head_of(&fields)[1].parse().unwrap();
+    let mut target = lent(space, &[]);
+    let got = call(toward, &bytes_of(fields[1]), &words_of(fields[2]), &mut target[..space]);
+    compare(got, answer_of(fields[3]), &target, &lent(space, &words_of(fields.get(4).unwrap_or(&""))))
+}
+
+/// Runs one case of moving a map by a card and tells what differs.
+pub fn card_map(line: &str, toward: Toward, call: CardMap) -> Result<(), String> {
+    let fields = fields_of(line);
+    let mut moved = lent(1, &[]);
+    let got = call(toward, &bytes_of(fields[1]), head_of(&fields)[1].parse().unwrap(), &mut moved[0]);
+    let want = answer_of(fields[2]);
+    let after = if let Answer::Delivered(figures) = &want { lent(1, &[figures[0] as u16]) } else { lent(1, &[]) };
+    compare(got, want, &moved, &after)
+}
+
+/// Runs one case of a card's inverse and tells what differs.
+pub fn inverse_card(line: &str, call: InverseCard) -> Result<(), String> {
+    let fields = fields_of(line);
+    let mut inverse = lent_bytes(9, &[]);
+    let got = call(&bytes_of(fields[1]), inverse.first_chunk_mut().unwrap());
+    compare(got, answer_of(fields[2]), &inverse, &lent_bytes(9, &bytes_of(fields.get(3).unwrap_or(&""))))
+}
+
 /// Runs one case of reading a log back with a reader and tells what differs.
 pub fn read_log(line: &str, reader: LogReader) -> Result<(), String> {
     let fields = fields_of(line);
@@ -198,6 +230,11 @@ pub fn run(line: &str) -> Result<(), String> {
         "to-algebraic" => words(line, Toward::Algebraic),
         "map-to-physical" => map(line, Toward::Physical),
         "map-to-algebraic" => map(line, Toward::Algebraic),
+        "card-to-physical" => card_words(line, Toward::Physical, library::card_words),
+        "card-to-algebraic" => card_words(line, Toward::Algebraic, library::card_words),
+        "card-map-to-physical" => card_map(line, Toward::Physical, library::card_map),
+        "card-map-to-algebraic" => card_map(line, Toward::Algebraic, library::card_map),
+        "inverse-card" => inverse_card(line, library::inverse_card),
         "listing" => program(line, |input| printed("listing", input)),
         "log" => read6250(line, library::log6250),
         "read-log" => read_log(line, library::read_log),
