@@ -8,7 +8,7 @@
  * every call is `Called`, in crates/rindthok/specs, with the notice's three terms.
  *
  * Two orders. The drive counts physical tracks, 1 to 9, and the code algebraic tracks, 0 to 8. Writers and readers
- * know code order only. What comes from the drive is moved first, by the four calls at the end: the words, and the
+ * know code order only. What comes from the drive is moved first, by the calls at the end: the words, and the
  * pointer maps as well. A map that is left in head order points at other tracks, and a damaged record may then be
  * delivered with false data, though every promise holds. So the maps of the two orders are two types, and a drive's
  * map that is handed to a reader does not compile.
@@ -16,18 +16,19 @@
  * The caller passes valid pointers, each of which holds for the length beside it; what is written through one,
  * outputs and single numbers alike, overlaps nothing else that is passed. A pointer may be NULL where the length
  * beside it is 0: as an input it has no bytes, words, characters or maps, which is a record of empty data to
- * rindthok_write6250, refused by 9 by rindthok_read_log and by 1 everywhere else, and as an output it has no space,
- * which is refused by 2, but for the maps of a log of no groups, which is refused by 9. A pointer with no length
- * beside it (`groups`, `size`, `place` and the like) is never NULL.
+ * rindthok_write6250, refused by 9 by rindthok_read_log, a card without numbers by 12, and by 1 everywhere else, and as
+ * an output it has no space, which is refused by 2, but for the maps of a log of no groups, which is refused by 9. A
+ * pointer with no length beside it (`groups`, `size`, `place` and the like) is never NULL.
  *
  * Places. 3: the lowest group with a stray word or map, the lowest stray character, or the lowest stray word of nine,
- * from 0; for a map by itself 0. 4 and 5: the lowest group, from 0, that has one of the two. 1, 2 and 6 to 10: 0. A
- * backward reading is turned forward first, so its places count from the record's beginning.
+ * from 0; for a map by itself 0. 4 and 5: the lowest group, from 0, that has one of the two. 11: the lowest physical
+ * track, from 1, whose number the card may not have. 1, 2, 6 to 10 and 12: 0. A backward reading is turned forward first,
+ * so its places count from the record's beginning.
  *
  * Stack, as measured on x86-64 from the call to the lowest byte touched: a read at 6250 takes 7,728 bytes forward and
  * 7,760 backward, its log 7,824 and 7,856, a log read back 72, a read at 800 at most 1,192, a write 136 at 6250 and
- * 560 at 800, a call between the orders 8. Where the C library is bound lazily, the first call of its memcpy or
- * memset runs the linker on the same stack, which takes some thousands of bytes more; link with -z now, or
+ * 560 at 800, a call between the orders 8, one by a card 216. Where the C library is bound lazily, the first call of its
+ * memcpy or memset runs the linker on the same stack, which takes some thousands of bytes more; link with -z now, or
  * statically. The calls allocate nothing and keep no state, so any number of threads may make them.
  *
  * The programs beside the library end with status 0, always, unless a signal ends them: a script tells a refusal by
@@ -43,7 +44,8 @@
 extern "C" {
 #endif
 
-/* The refusals of document 01, "Where a call is turned down", and of document 02: 9 and 10 by request 2.1. */
+/* The refusals of document 01, "Where a call is turned down", and of document 02: 9 and 10 by request 2.1, 11
+ * and 12 by request 2.4. */
 enum rindthok_refusal {
     RINDTHOK_LENGTH = 1,          /* a length is outside the limits */
     RINDTHOK_SPACE = 2,           /* the output has too little space */
@@ -54,7 +56,9 @@ enum rindthok_refusal {
     RINDTHOK_NO_RECORD = 7,       /* no written record fits */
     RINDTHOK_SEVERAL_RECORDS = 8, /* more than one written record fits */
     RINDTHOK_LOG_LENGTH = 9,      /* a log is not one of 1 to 586 groups, or its length does not suit them */
-    RINDTHOK_LOG_CONTENT = 10     /* a log has a spare bit, or a map of tracks that is 0 or above 511 */
+    RINDTHOK_LOG_CONTENT = 10,    /* a log has a spare bit, or a map of tracks that is 0 or above 511 */
+    RINDTHOK_CARD_CONTENT = 11,   /* a card has a number above 8, or one that stands on two tracks */
+    RINDTHOK_CARD_LENGTH = 12     /* a card does not have nine numbers */
 };
 
 /* A drive's pointer map, in head order: physical track p in bit p - 1. */
@@ -132,18 +136,34 @@ uint16_t rindthok_read800_forward(const uint16_t *characters, size_t character_c
 uint16_t rindthok_read800_backward(const uint16_t *characters, size_t character_count, uint8_t *output, size_t output_space, size_t *size, size_t *track, size_t *changes, size_t *place);
 
 /* Nine words of ten bits from code order (algebraic track a at index a) to head order (physical track
- * p, 1 to 9, at index p - 1), by the order of document 000, note 11; and back. The target has space
- * for nine or more. Refusals: 1 if there are not nine words, 2 if the space is short, 3 if a word is
- * above 1023, with the index of the first such word as its place. */
+ * p, 1 to 9, at index p - 1), by the standard card, 1 4 7 8 3 6 0 2 5, which is the order of document 000, note 11; and
+ * back. The target has space for nine or more. Refusals: 1 if there are not nine words, 2 if the space is short, 3 if a
+ * word is above 1023, with the index of the first such word as its place. */
 uint16_t rindthok_words_to_physical(const uint16_t *source, size_t source_length, uint16_t *target, size_t target_length, size_t *place);
 uint16_t rindthok_words_to_algebraic(const uint16_t *source, size_t source_length, uint16_t *target, size_t target_length, size_t *place);
 
 /* A pointer map of nine bits from code order (algebraic track a in bit a) to head order (physical
- * track p in bit p - 1), and back. The map that is moved is passed as a number, as the drive's register or the
- * other type's field has it; what comes of it has the type of its order. Refusal: 3, with place 0, if the map is
- * above 511. */
+ * track p in bit p - 1), by the standard card, and back. The map that is moved is passed as a number, as the drive's
+ * register or the other type's field has it; what comes of it has the type of its order. Refusal: 3, with place 0, if
+ * the map is above 511. */
 uint16_t rindthok_map_to_physical(uint16_t map, rindthok_physical_map *moved, size_t *place);
 uint16_t rindthok_map_to_algebraic(uint16_t map, rindthok_algebraic_map *moved, size_t *place);
+
+/* The same by a wiring card, for a head that was rewired: nine numbers, for physical tracks 1 to 9 the algebraic track,
+ * 0 to 8, each once. What is moved by a card is restored by moving it back by the same card, words and maps alike; words
+ * and maps of one head go by one card. By the standard card these calls answer as those above do.
+ * Refusals of words, from top to bottom: 12 if the card does not have nine numbers; 1; 2; 11 if a number is above 8 or
+ * stands on two tracks, with the lowest physical track, 1 to 9, that has such a number as its place (of two equal numbers
+ * the first one's); 3. Of a map: 12, 11, 3. */
+uint16_t rindthok_card_words_to_physical(const uint8_t *card, size_t card_length, const uint16_t *source, size_t source_length, uint16_t *target, size_t target_length, size_t *place);
+uint16_t rindthok_card_words_to_algebraic(const uint8_t *card, size_t card_length, const uint16_t *source, size_t source_length, uint16_t *target, size_t target_length, size_t *place);
+uint16_t rindthok_card_map_to_physical(const uint8_t *card, size_t card_length, uint16_t map, rindthok_physical_map *moved, size_t *place);
+uint16_t rindthok_card_map_to_algebraic(const uint8_t *card, size_t card_length, uint16_t map, rindthok_algebraic_map *moved, size_t *place);
+
+/* The inverse card: for algebraic tracks 0 to 8 the physical track less 1. Each good card has one, and is the inverse of
+ * its inverse; to move one way by a card is to move the other way by its inverse. Refusals: 12, 11; the nine numbers are
+ * then as they were. */
+uint16_t rindthok_inverse_card(const uint8_t *card, size_t card_length, uint8_t inverse[9], size_t *place);
 
 #ifdef __cplusplus
 }

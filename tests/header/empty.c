@@ -31,6 +31,10 @@ typedef uint16_t log6250(const uint16_t *, size_t, const rindthok_algebraic_map 
                          size_t *);
 typedef uint16_t read800(const uint16_t *, size_t, uint8_t *, size_t, size_t *, size_t *, size_t *, size_t *);
 typedef uint16_t move(const uint16_t *, size_t, uint16_t *, size_t, size_t *);
+typedef uint16_t card_move(const uint8_t *, size_t, const uint16_t *, size_t, uint16_t *, size_t, size_t *);
+
+/* The standard card, and one that is refused by 11. */
+static const uint8_t card[9] = {1, 4, 7, 8, 3, 6, 0, 2, 5}, bad_card[9] = {9};
 
 static void write6250(uint16_t *words)
 {
@@ -115,6 +119,50 @@ static void moves(move *moved)
     due("order, no target", moved(words, 9, NULL, 0, &place), 2);
 }
 
+/* A missing card is refused before anything else that is missing or bad, and a bad card after what is missing. */
+static void card_moves(card_move *moved)
+{
+    const uint16_t words[9] = {0}, stray[1] = {1024};
+    uint16_t target[9] = {7, 7, 7, 7, 7, 7, 7, 7, 7};
+    int k;
+
+    due("card, nothing", moved(NULL, 0, NULL, 0, NULL, 0, &place), 12);
+    due("card, no card", moved(NULL, 0, words, 9, target, 9, &place), 12);
+    due("card, no card, no words", moved(NULL, 0, NULL, 0, target, 9, &place), 12);
+    due("card, no card, no target", moved(NULL, 0, words, 9, NULL, 0, &place), 12);
+    due("card, no card, a stray word", moved(NULL, 0, stray, 1, target, 9, &place), 12);
+    due("card, no words", moved(card, 9, NULL, 0, target, 9, &place), 1);
+    due("card, no words, no target", moved(card, 9, NULL, 0, NULL, 0, &place), 1);
+    due("card, no target", moved(card, 9, words, 9, NULL, 0, &place), 2);
+    due("bad card, no words", moved(bad_card, 9, NULL, 0, target, 9, &place), 1);
+    due("bad card, no target", moved(bad_card, 9, words, 9, NULL, 0, &place), 2);
+    for (k = 0; k < 9; k++)
+        stored("card, target", target[k], 7);
+}
+
+static void card_maps(void)
+{
+    rindthok_physical_map physical = {7};
+    rindthok_algebraic_map algebraic = {7};
+
+    due("map to physical, no card", rindthok_card_map_to_physical(NULL, 0, 1, &physical, &place), 12);
+    due("stray map to physical, no card", rindthok_card_map_to_physical(NULL, 0, 512, &physical, &place), 12);
+    stored("map to physical, no card", physical.physical, 7);
+    due("map to algebraic, no card", rindthok_card_map_to_algebraic(NULL, 0, 1, &algebraic, &place), 12);
+    due("stray map to algebraic, no card", rindthok_card_map_to_algebraic(NULL, 0, 512, &algebraic, &place), 12);
+    stored("map to algebraic, no card", algebraic.algebraic, 7);
+}
+
+static void inverse_card(void)
+{
+    uint8_t inverse[9] = {7, 7, 7, 7, 7, 7, 7, 7, 7};
+    int k;
+
+    due("inverse, no card", rindthok_inverse_card(NULL, 0, inverse, &place), 12);
+    for (k = 0; k < 9; k++)
+        stored("inverse, no card", inverse[k], 7);
+}
+
 int main(void)
 {
     uint16_t words[9] = {0};
@@ -131,5 +179,9 @@ int main(void)
     reads800(rindthok_read800_backward);
     moves(rindthok_words_to_physical);
     moves(rindthok_words_to_algebraic);
+    card_moves(rindthok_card_words_to_physical);
+    card_moves(rindthok_card_words_to_algebraic);
+    card_maps();
+    inverse_card();
     return failed;
 }

@@ -1,6 +1,6 @@
 /* From the drive to the data and to the log the right way: words and map are moved, the record is read, and what is read back
- * of its log is moved to the drive's order. Each macro names what is handed over in one place; with another there, of the
- * wrong order, this must not compile. C and C++ alike. */
+ * of its log is moved to the drive's order; then words and map are moved by a card. Each macro names what is handed over in
+ * one place; with another there, of the wrong order, or words for a card, this must not compile. C and C++ alike. */
 #include "rindthok.h"
 
 #ifndef READ_WITH
@@ -27,17 +27,47 @@
 #ifndef TO_PHYSICAL
 #define TO_PHYSICAL drive_maps
 #endif
+#ifndef WORDS_TO_PHYSICAL_BY
+#define WORDS_TO_PHYSICAL_BY card
+#endif
+#ifndef WORDS_TO_ALGEBRAIC_BY
+#define WORDS_TO_ALGEBRAIC_BY card
+#endif
+#ifndef MAP_TO_PHYSICAL_BY
+#define MAP_TO_PHYSICAL_BY card
+#endif
+#ifndef MAP_TO_ALGEBRAIC_BY
+#define MAP_TO_ALGEBRAIC_BY card
+#endif
+#ifndef CARD_MOVED_TO_ALGEBRAIC
+#define CARD_MOVED_TO_ALGEBRAIC drive_map.physical
+#endif
+#ifndef CARD_MOVED_TO_PHYSICAL
+#define CARD_MOVED_TO_PHYSICAL maps[0].algebraic
+#endif
+#ifndef CARD_TO_ALGEBRAIC
+#define CARD_TO_ALGEBRAIC maps
+#endif
+#ifndef CARD_TO_PHYSICAL
+#define CARD_TO_PHYSICAL drive_maps
+#endif
+#ifndef INVERTED
+#define INVERTED card
+#endif
+#ifndef INVERSE_TO
+#define INVERSE_TO inverse
+#endif
 
 /* The types change no layout. */
 typedef char physical_is_a_number[sizeof(rindthok_physical_map) == sizeof(uint16_t) ? 1 : -1];
 typedef char algebraic_is_a_number[sizeof(rindthok_algebraic_map) == sizeof(uint16_t) ? 1 : -1];
 
-static const uint8_t data[1] = {0x01};
+static const uint8_t data[1] = {0x01}, card[9] = {1, 4, 7, 8, 3, 6, 0, 2, 5};
 static const rindthok_physical_map drive_map = {(1 << 3) | (1 << 6)};
-static uint16_t code[9], head[9], words[9], turned[9], numbers[1];
+static uint16_t code[9], head[9], words[9], turned[9], by_card[9], numbers[1];
 static rindthok_physical_map drive_maps[1];
 static rindthok_algebraic_map maps[1], marks[1];
-static uint8_t bytes[6], log_forward[3], log_backward[3];
+static uint8_t bytes[6], log_forward[3], log_backward[3], inverse[9];
 static size_t groups, size, changes, length, place;
 
 /* Reads what the drive gives, two tracks of it damaged; 0, or the step that went wrong. */
@@ -91,10 +121,48 @@ static int write_log(void)
     return drive_maps[0].physical == drive_map.physical ? 0 : 12;
 }
 
+/* Whether the words that were moved by the card are these. */
+static int are_moved(const uint16_t *expected)
+{
+    int k;
+
+    for (k = 0; k < 9; k++)
+        if (by_card[k] != expected[k])
+            return 0;
+    return 1;
+}
+
+/* Moves the words and the drive's map by the standard card, as they were moved without one, and inverts it. */
+static int move_by_card(void)
+{
+    int k;
+
+    maps[0].algebraic = 0;
+    drive_maps[0].physical = 0;
+    if (rindthok_card_words_to_algebraic(WORDS_TO_ALGEBRAIC_BY, 9, head, 9, by_card, 9, &place) != 0 || !are_moved(words))
+        return 13;
+    if (rindthok_card_words_to_physical(WORDS_TO_PHYSICAL_BY, 9, words, 9, by_card, 9, &place) != 0 || !are_moved(head))
+        return 14;
+    if (rindthok_card_map_to_algebraic(MAP_TO_ALGEBRAIC_BY, 9, CARD_MOVED_TO_ALGEBRAIC, CARD_TO_ALGEBRAIC, &place) != 0)
+        return 15;
+    if (rindthok_card_map_to_physical(MAP_TO_PHYSICAL_BY, 9, CARD_MOVED_TO_PHYSICAL, CARD_TO_PHYSICAL, &place) != 0)
+        return 16;
+    if (maps[0].algebraic != 257 || drive_maps[0].physical != drive_map.physical)
+        return 17;
+    if (rindthok_inverse_card(INVERTED, 9, INVERSE_TO, &place) != 0)
+        return 18;
+    for (k = 0; k < 9; k++)
+        if (inverse[card[k]] != k)
+            return 19;
+    return 0;
+}
+
 int main(void)
 {
     int step = read_record();
 
     (void)numbers;
-    return step != 0 ? step : write_log();
+    if (step == 0)
+        step = write_log();
+    return step != 0 ? step : move_by_card();
 }
