@@ -9,12 +9,13 @@
 enum { STACK = 1 << 20, GROUPS = 586, WORDS = 9 * GROUPS, BYTES = 4101, BYTES800 = 2048, CHARACTERS = 2050 };
 
 static unsigned char stack[STACK] __attribute__((aligned(64)));
-static uint8_t bytes[BYTES], output[7 * GROUPS], log_bytes[3 * GROUPS];
+static uint8_t bytes[BYTES], output[7 * GROUPS], log_bytes[3 * GROUPS], inverse[9];
 static uint16_t words[WORDS], characters[CHARACTERS], turned[WORDS], nine[9];
 static rindthok_algebraic_map maps[GROUPS];
 enum { SIZES = 6 };
 static const size_t sizes[SIZES] = {1, 80, 400, 500, BYTES800, BYTES};
-static size_t byte_count, group_count, character_count, log_length, told[3], place;
+static size_t byte_count, group_count, character_count, log_length, card_length, told[3], place;
+static const uint8_t *card;
 
 /* What is called: the call that is measured, or what stands in for it and notes where the stack stands. */
 static void (*volatile called)(void);
@@ -33,6 +34,9 @@ static void read_log(void) { CALL(rindthok_read_log)(group_count, log_bytes, log
 static void read800(void) { CALL(rindthok_read800_forward)(turned, character_count, output, sizeof output, told, told + 1, told + 2, &place); }
 static void move_words(void) { CALL(rindthok_words_to_physical)(words, 9, nine, 9, &place); }
 static void move_map(void) { CALL(rindthok_map_to_algebraic)(5, maps, &place); }
+static void card_words(void) { CALL(rindthok_card_words_to_physical)(card, card_length, words, 9, nine, 9, &place); }
+static void card_map(void) { CALL(rindthok_card_map_to_algebraic)(card, card_length, 5, maps, &place); }
+static void inverse_card(void) { CALL(rindthok_inverse_card)(card, card_length, inverse, &place); }
 
 /* Makes the call on the painted stack, and tells how many bytes below `at_call` it touched. */
 static long touched(void (*call)(void), void (*function)(void), int colour) {
@@ -167,6 +171,25 @@ static void reads(const char *forward, const char *backward, size_t limit, void 
     }
 }
 
+/* The calls by a card: by a good one, and refused by one that is short, one with a number above 8 and one with two equal. */
+#define CARDS 4
+static const uint8_t cards[CARDS][9] = {{1, 4, 7, 8, 3, 6, 0, 2, 5}, {1, 4, 7, 8, 3, 6, 0, 2, 5}, {1, 4, 7, 8, 255, 6, 0, 2, 5}, {1, 4, 7, 8, 3, 6, 0, 2, 3}};
+static const size_t card_lengths[CARDS] = {9, 8, 9, 9};
+
+static void wiring_cards(void) {
+    int k;
+    for (k = 0; k < CARDS; k++) {
+        card = cards[k];
+        card_length = card_lengths[k];
+        measure(card_words, ANY(rindthok_card_words_to_physical));
+        measure(card_words, ANY(rindthok_card_words_to_algebraic));
+        measure(card_map, ANY(rindthok_card_map_to_physical));
+        measure(card_map, ANY(rindthok_card_map_to_algebraic));
+        measure(inverse_card, ANY(rindthok_inverse_card));
+    }
+    tell("wiring cards");
+}
+
 int main(void) {
     static void (*at6250[])(void) = {ANY(rindthok_read6250_forward), ANY(rindthok_read6250_backward)};
     static void (*logs[])(void) = {ANY(rindthok_log6250_forward), ANY(rindthok_log6250_backward)};
@@ -185,5 +208,6 @@ int main(void) {
     measure(move_map, ANY(rindthok_map_to_physical));
     measure(move_map, ANY(rindthok_map_to_algebraic));
     tell("head order");
+    wiring_cards();
     return fflush(stdout) == 0 ? 0 : 1;
 }

@@ -66,3 +66,31 @@ pub fn words_to_algebraic(source: &[u16], target: &mut [u16]) -> Answer {
     let status = unsafe { rindthok_words_to_algebraic(from, source.len(), to, target.len(), &mut place) };
     answer(status, place, [0; 3])
 }
+
+pub fn map<const TO_PHYSICAL: bool>(map: u16) -> Answer {
+    let (mut moved, mut place) = (0, 0);
+    let call = if TO_PHYSICAL { rindthok_map_to_physical } else { rindthok_map_to_algebraic };
+    let status = unsafe { call(map, &mut moved, &mut place) };
+    answer(status, place, [usize::from(moved), 0, 0])
+}
+
+pub fn words_by_card<const TO_PHYSICAL: bool>(card: &[u8], source: &[u16], target: &mut [u16]) -> Answer {
+    let mut place = 0;
+    let call = if TO_PHYSICAL { rindthok_card_words_to_physical } else { rindthok_card_words_to_algebraic };
+    let (numbers, from, to) = (card.as_ptr(), source.as_ptr(), target.as_mut_ptr());
+    let status = unsafe { call(numbers, card.len(), from, source.len(), to, target.len(), &mut place) };
+    answer(status, place, [0; 3])
+}
+
+pub fn map_by_card<const TO_PHYSICAL: bool>(card: &[u8], map: u16) -> Answer {
+    let (mut moved, mut place) = (0, 0);
+    let call = if TO_PHYSICAL { rindthok_card_map_to_physical } else { rindthok_card_map_to_algebraic };
+    let status = unsafe { call(card.as_ptr(), card.len(), map, &mut moved, &mut place) };
+    answer(status, place, [usize::from(moved), 0, 0])
+}
+
+pub fn inverse_card(card: &[u8], inverse: &mut [u8; 9]) -> Answer {
+    let mut place = 0;
+    let status = unsafe { rindthok_inverse_card(card.as_ptr(), card.len(), inverse.as_mut_ptr(), &mut place) };
+    answer(status, place, [0; 3])
+}

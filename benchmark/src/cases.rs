@@ -1,4 +1,5 @@
-//! What is measured: records of two lengths at each density, clean and damaged, forward and backward.
+//! What is measured: records of two lengths at each density, clean and damaged, forward and backward, and what is moved
+//! between the orders.
 
 use crate::{calls, fast6250, fast800, fast_log, fast_order, Answer};
 
@@ -41,15 +42,24 @@ pub enum Call {
     ReadLog { marked: bool },
     Write800,
     Read800 { backward: bool, damage: Damage },
+    /// Nine words, and a map, by the standard card.
     Order { physical: bool },
+    MapOrder { physical: bool },
+    /// The same by the record's card.
+    CardOrder { physical: bool },
+    CardMapOrder { physical: bool },
+    InverseCard,
 }
 
-/// One record: its data, what lies on tape, the maps, and at 6250 the log of the reading.
+/// One record: its data, what lies on tape, the maps, and at 6250 the log of the reading. To be moved between the orders:
+/// nine words on tape, one map, and a good card.
+#[derive(Default)]
 pub struct Record {
     pub data: Vec<u8>,
     pub tape: Vec<u16>,
     pub maps: Vec<u16>,
     pub log: Vec<u8>,
+    pub card: Vec<u8>,
 }
 
 fn data(seeded: &mut Seeded, length: usize) -> Vec<u8> {
@@ -101,7 +111,7 @@ fn record6250(seeded: &mut Seeded, length: usize, backward: bool, damage: Damage
         tape = tape.chunks(9).rev().flatten().map(|word| word.reverse_bits() >> 6).collect();
     }
     let log = log_of(&tape, &maps, backward);
-    Record { data, tape, maps, log }
+    Record { data, tape, maps, log, ..Record::default() }
 }
 
 fn record800(seeded: &mut Seeded, length: usize, backward: bool, damage: Damage) -> Record {
@@ -117,7 +127,19 @@ fn record800(seeded: &mut Seeded, length: usize, backward: bool, damage: Damage)
     if backward {
         tape.reverse();
     }
-    Record { data, tape, maps: vec![], log: vec![] }
+    Record { data, tape, ..Record::default() }
+}
+
+/// For each physical track one of the numbers that are left, so that each of the nine stands once.
+fn good_card(seeded: &mut Seeded) -> Vec<u8> {
+    let mut left: Vec<u8> = (0..9).collect();
+    (0..9).map(|_| left.swap_remove(seeded.below(left.len()))).collect()
+}
+
+fn record_to_move(seeded: &mut Seeded) -> Record {
+    let tape = (0..9).map(|_| seeded.below(1024) as u16).collect();
+    let maps = vec![seeded.below(512) as u16];
+    Record { tape, maps, card: good_card(seeded), ..Record::default() }
 }
 
 /// A reading's direction and damage.
@@ -133,6 +155,11 @@ pub fn reading(backward: bool, damage: Damage) -> String {
     format!("{direction}, {damage}")
 }
 
+/// The order that something is moved to.
+fn target(physical: bool) -> &'static str {
+    if physical { "to head order" } else { "to code order" }
+}
+
 impl Call {
     pub fn record(self, seeded: &mut Seeded, length: usize) -> Record {
         match self {
@@ -141,7 +168,8 @@ impl Call {
             Call::ReadLog { marked } => record6250(seeded, length, false, if marked { Damage::OneTrack } else { Damage::Clean }),
             Call::Write800 => record800(seeded, length, false, Damage::Clean),
             Call::Read800 { backward, damage } => record800(seeded, length, backward, damage),
-            Call::Order { .. } => Record { data: vec![], tape: (0..9).map(|_| seeded.below(1024) as u16).collect(), maps: vec![], log: vec![] },
+            Call::Order { .. } | Call::MapOrder { .. } => record_to_move(seeded),
+            Call::CardOrder { .. } | Call::CardMapOrder { .. } | Call::InverseCard => record_to_move(seeded),
         }
     }
 
@@ -154,8 +182,11 @@ impl Call {
             Call::ReadLog { marked: false } => "read log, clean".to_string(),
             Call::ReadLog { marked: true } => "read log, one mark in every group".to_string(),
             Call::Read800 { backward, damage } => format!("read 800 {}", reading(backward, damage)),
-            Call::Order { physical: true } => "nine words to head order".to_string(),
-            Call::Order { physical: false } => "nine words to code order".to_string(),
+            Call::Order { physical } => format!("nine words {}", target(physical)),
+            Call::MapOrder { physical } => format!("a map {}", target(physical)),
+            Call::CardOrder { physical } => format!("nine words {} by a card", target(physical)),
+            Call::CardMapOrder { physical } => format!("a map {} by a card", target(physical)),
+            Call::InverseCard => "the inverse card".to_string(),
         }
     }
 
@@ -169,6 +200,10 @@ impl Call {
             Call::Write800 => (by.write800)(&record.data, words),
             Call::Read800 { backward, .. } => by.read800[usize::from(backward)](&record.tape, bytes),
             Call::Order { physical } => by.order[usize::from(physical)](&record.tape, words),
+            Call::MapOrder { physical } => by.map_order[usize::from(physical)](record.maps[0]),
+            Call::CardOrder { physical } => by.card_order[usize::from(physical)](&record.card, &record.tape, words),
+            Call::CardMapOrder { physical } => by.card_map_order[usize::from(physical)](&record.card, record.maps[0]),
+            Call::InverseCard => (by.inverse_card)(&record.card, bytes.first_chunk_mut().expect("the output has space for a card")),
         }
     }
 }
@@ -182,6 +217,10 @@ pub struct Implementation {
     write800: fn(&[u8], &mut [u16]) -> Answer,
     read800: [fn(&[u16], &mut [u8]) -> Answer; 2],
     order: [fn(&[u16], &mut [u16]) -> Answer; 2],
+    map_order: [fn(u16) -> Answer; 2],
+    card_order: [fn(&[u8], &[u16], &mut [u16]) -> Answer; 2],
+    card_map_order: [fn(&[u8], u16) -> Answer; 2],
+    inverse_card: fn(&[u8], &mut [u8; 9]) -> Answer,
 }
 
 pub const LIBRARY: Implementation = Implementation {
@@ -192,6 +231,10 @@ pub const LIBRARY: Implementation = Implementation {
     write800: calls::write800,
     read800: [calls::read800::<false>, calls::read800::<true>],
     order: [calls::words_to_algebraic, calls::words_to_physical],
+    map_order: [calls::map::<false>, calls::map::<true>],
+    card_order: [calls::words_by_card::<false>, calls::words_by_card::<true>],
+    card_map_order: [calls::map_by_card::<false>, calls::map_by_card::<true>],
+    inverse_card: calls::inverse_card,
 };
 
 pub const RUST: Implementation = Implementation {
@@ -202,4 +245,8 @@ pub const RUST: Implementation = Implementation {
     write800: fast800::write,
     read800: [fast800::read::<false>, fast800::read::<true>],
     order: [fast_order::to_algebraic, fast_order::to_physical],
+    map_order: [fast_order::map::<false>, fast_order::map::<true>],
+    card_order: [fast_order::words_by_card::<false>, fast_order::words_by_card::<true>],
+    card_map_order: [fast_order::map_by_card::<false>, fast_order::map_by_card::<true>],
+    inverse_card: fast_order::inverse_card,
 };

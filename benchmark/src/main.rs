@@ -158,6 +158,17 @@ fn readings(read: impl Fn(bool, Damage) -> Call, damages: &[Damage]) -> Vec<Call
     [false, true].into_iter().flat_map(|backward| damages.iter().map(move |&damage| (backward, damage))).map(|(backward, damage)| read(backward, damage)).collect()
 }
 
+/// The calls that move between the orders, and the inverse card: they have no data.
+fn moves() -> Vec<Call> {
+    let both: [fn(bool) -> Call; 4] = [
+        |physical| Call::Order { physical },
+        |physical| Call::MapOrder { physical },
+        |physical| Call::CardOrder { physical },
+        |physical| Call::CardMapOrder { physical },
+    ];
+    both.into_iter().flat_map(|call| [true, false].map(call)).chain([Call::InverseCard]).collect()
+}
+
 /// Every call that is measured, with the length of its data.
 fn cases() -> Vec<(Call, usize)> {
     let at6250 = |backward, damage| Call::Read6250 { backward, damage };
@@ -170,7 +181,7 @@ fn cases() -> Vec<(Call, usize)> {
     calls.push((Call::Write800, 2048));
     calls.extend(readings(at800, &[Damage::Clean, Damage::OneTrack]).into_iter().map(|call| (call, 2048)));
     let mut all: Vec<(Call, usize)> = calls.into_iter().flat_map(|(call, full)| [(call, 80), (call, full)]).collect();
-    all.extend([true, false].map(|physical| (Call::Order { physical }, 0)));
+    all.extend(moves().into_iter().map(|call| (call, 0)));
     all
 }
 
