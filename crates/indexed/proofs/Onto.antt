@@ -10,19 +10,7 @@ use native.Mathlib.Omega.{arith}
 use borrow.Author.Tests.{eq-eqb, ne-eqb, eqb-true}
 use lib.Dec.{eqb}
 use Rattle.indexed.specs.List.{total, occurrences}
-use Rattle.indexed.proofs.Total.{total-same, total-none, total-within, total-digits, one-of-total}
-
--- ---- sums of sums
-
-total-plus : (n : ℕ) (f g : ℕ → ℕ) → total n (λ k. f k + g k) ≡ total n f + total n g
-unfolding total
-total-plus zero f g = refl
-total-plus (suc n) f g = omega (arith, total-plus n f g)
-
-total-swap : (m n : ℕ) (f : ℕ → ℕ → ℕ) → total m (λ i. total n (f i)) ≡ total n (λ k. total m (λ i. f i k))
-unfolding total
-total-swap zero n f = sym (total-none n (λ k. 0) (λ k h. refl))
-total-swap (suc m) n f = ap (λ (t : ℕ). t + total n (f m)) (total-swap m n f) ∙ sym (total-plus n (λ k. total m (λ i. f i k)) (f m))
+use Rattle.indexed.proofs.Total.{total-same, total-none, total-ones, total-swap, total-within, total-digits, one-of-total}
 
 -- ---- how often a value occurs
 
@@ -58,7 +46,7 @@ once (suc n) x h = by (ℕ-discrete x n) (once n x)
     by (no ne) before = ap₂ _+_ (before (omega arith)) (apart n ne)
 
 module _ (n : ℕ) (f : ℕ → ℕ) (a : ℕ) where
-  -- twice, if at two places, and the two places
+  -- at two places it occurs twice, and what occurs twice has two places
   pub occurs-twice : (j k : ℕ) → j < k → k < n → f j ≡ a → f k ≡ a → 2 ≤ occurrences n f a
   unfolding occurrences
   occurs-twice j k less h ej ek =
@@ -83,11 +71,29 @@ module _ (n : ℕ) (f : ℕ → ℕ) (a : ℕ) where
         same-one (f (other .0)) a (other .2),
       )
 
-  pub one-occurs : 1 ≤ occurrences n f a → (k : ℕ) × (k < n) × (f k ≡ a)
+  one-occurs : 1 ≤ occurrences n f a → (k : ℕ) × (k < n) × (f k ≡ a)
   unfolding occurrences
   one-occurs h =
       let one = one-of-total n (λ k. same (f k) a) (λ k. same-lt (eqb (f k) a)) 0 h in
       (one .0, one .1, same-one (f (one .0)) a (one .2))
+
+-- less than twice, if every place with it is the same
+pub occurs-once : (n : ℕ) (f : ℕ → ℕ) (a : ℕ) → ((j k : ℕ) → j < n → k < n → f j ≡ a → f k ≡ a → j ≡ k) → occurrences n f a < 2
+occurs-once n f a alone = by (decLt (occurrences n f a) 2)
+  where
+    by : Dec (occurrences n f a < 2) → occurrences n f a < 2
+    by (yes b) = b
+    by (no b) =
+        let two = two-occur n f a (omega arith) in absurd (two .4 (alone (two .0) (two .1) (two .2) (two .3) (two .5) (two .6)))
+
+-- places with the same value are the same, if no later place has it
+pub same-place : (n : ℕ) (f : ℕ → ℕ) → ((j k : ℕ) → j < k → k < n → f j ≡ f k → ⊥) → (j k : ℕ) → j < n → k < n → f j ≡ f k → j ≡ k
+same-place n f never j k hj hk e = by (decLt j k) (decLt k j)
+  where
+    by : Dec (j < k) → Dec (k < j) → j ≡ k
+    by (yes less) behind = absurd (never j k less hk e)
+    by (no front) (yes less) = absurd (never k j less hj (sym e))
+    by (no front) (no behind) = omega arith
 
 -- ---- all values
 
@@ -101,7 +107,7 @@ all-ones (suc n) g bits e k h = by (decLt k n) (all-ones n g bits (omega (arith,
     by (yes b) before = before b
     by (no b) before = let last : k ≡ n = omega arith in rw last (omega (arith, total-digits n g bits, bits n))
 
--- and so has one of n numbers above 0
+-- n numbers above 0 sum to n at least, and if to n, they are ones only
 no-less : (n : ℕ) (g : ℕ → ℕ) → ((k : ℕ) → k < n → 1 ≤ g k) → n ≤ total n g
 unfolding total
 no-less zero g some = omega arith
@@ -118,44 +124,25 @@ only-ones (suc n) g some e k h =
     by (yes b) ih before = ih b
     by (no b) ih before = let last : k ≡ n = omega arith in rw last (omega (arith, some n (omega arith)))
 
-ones : (n : ℕ) → total n (λ k. 1) ≡ n
-unfolding total
-ones zero = refl
-ones (suc n) = omega (arith, ones n)
-
 module _ (n : ℕ) (f : ℕ → ℕ) (within : (k : ℕ) → k < n → f k < n) where
   all-occur : total n (occurrences n f) ≡ n
   unfolding occurrences
   all-occur =
       total-swap n n (λ a k. same (f k) a)
       ∙ total-same n (λ k. total n (same (f k))) (λ k. 1) (λ k h. once n (f k) (within k h))
-      ∙ ones n
+      ∙ total-ones n
 
   module _ (apart : (j k : ℕ) → j < n → k < n → f j ≡ f k → j ≡ k) where
     occurs-lt : (a : ℕ) → occurrences n f a < 2
-    occurs-lt a = by (decLt (occurrences n f a) 2)
-      where
-        by : Dec (occurrences n f a < 2) → occurrences n f a < 2
-        by (yes b) = b
-        by (no b) =
-            let two = two-occur n f a (omega arith) in
-            absurd (two .4 (apart (two .0) (two .1) (two .2) (two .3) (two .5 ∙ sym (two .6))))
+    occurs-lt a = occurs-once n f a (λ j k hj hk ej ek. apart j k hj hk (ej ∙ sym ek))
 
     pub every-value : (a : ℕ) → a < n → (k : ℕ) × (k < n) × (f k ≡ a)
     every-value a h = one-occurs n f a (omega (arith, all-ones n (occurrences n f) occurs-lt all-occur a h))
 
   -- the other way
   module _ (onto : (a : ℕ) → a < n → (k : ℕ) × (k < n) × (f k ≡ a)) where
-    occurs-once : (a : ℕ) → a < n → occurrences n f a ≡ 1
-    occurs-once = only-ones n (occurrences n f) (λ a h. let at = onto a h in occurs n f a (at .0) (at .1) (at .2)) all-occur
-
-    never-twice : (j k : ℕ) → j < k → k < n → f j ≡ f k → ⊥
-    never-twice j k less h e = omega (arith, occurs-once (f k) (within k h), occurs-twice n f (f k) j k less h e refl)
+    each-once : (a : ℕ) → a < n → occurrences n f a ≡ 1
+    each-once = only-ones n (occurrences n f) (λ a h. let at = onto a h in occurs n f a (at .0) (at .1) (at .2)) all-occur
 
     pub one-to-one : (j k : ℕ) → j < n → k < n → f j ≡ f k → j ≡ k
-    one-to-one j k hj hk e = by (decLt j k) (decLt k j)
-      where
-        by : Dec (j < k) → Dec (k < j) → j ≡ k
-        by (yes less) behind = absurd (never-twice j k less hk e)
-        by (no front) (yes less) = absurd (never-twice k j less hj (sym e))
-        by (no front) (no behind) = omega arith
+    one-to-one = same-place n f (λ j k less h e. omega (arith, each-once (f k) (within k h), occurs-twice n f (f k) j k less h e refl))

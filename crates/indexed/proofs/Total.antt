@@ -113,3 +113,20 @@ one-of-total (suc n) f bits k h = by (decLt k (total n f)) (one-of-total n f bit
         → (g : ℕ) × (g < suc n) × (f g ≡ 1) × (total g f ≡ k)
     by (yes b) before = let found = before b in (found .0, omega (arith, found .1), found .2, found .3)
     by (no b) before = (n, omega arith, omega (arith, bits n), omega (arith, bits n))
+
+-- ---- sums of sums, and of ones
+
+total-plus : (n : ℕ) (f g : ℕ → ℕ) → total n (λ k. f k + g k) ≡ total n f + total n g
+unfolding total
+total-plus zero f g = refl
+total-plus (suc n) f g = omega (arith, total-plus n f g)
+
+pub total-swap : (m n : ℕ) (f : ℕ → ℕ → ℕ) → total m (λ i. total n (f i)) ≡ total n (λ k. total m (λ i. f i k))
+unfolding total
+total-swap zero n f = sym (total-none n (λ k. 0) (λ k h. refl))
+total-swap (suc m) n f = ap (λ (t : ℕ). t + total n (f m)) (total-swap m n f) ∙ sym (total-plus n (λ k. total m (λ i. f i k)) (f m))
+
+pub total-ones : (n : ℕ) → total n (λ k. 1) ≡ n
+unfolding total
+total-ones zero = refl
+total-ones (suc n) = omega (arith, total-ones n)

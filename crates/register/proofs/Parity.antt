@@ -11,7 +11,7 @@ use lib.Bits.{differ, xor-comm, xor-mod, xor-shifted}
 use lib.Pow.{pow-pos, split}
 use Rattle.indexed.specs.List.{total}
 use Rattle.indexed.proofs.Test.{equal₂}
-use Rattle.indexed.proofs.Total.{total-same}
+use Rattle.indexed.proofs.Total.{total-same, total-ones}
 use Rattle.register.specs.Xor.{_⊕_}
 use Rattle.register.specs.Parity.{parity, parityDigits}
 use Rattle.register.specs.Shift.{shift, shifts}
@@ -80,11 +80,6 @@ unfolding xorSum total
 sum-digits zero d h = refl
 sum-digits (suc n) d h =
     ap (λ (x : ℕ). x ⊕ d n) (sum-digits n d (λ k b. h k (omega arith))) ∙ odd-more (total n d) (d n) (h n (le-refl (suc n)))
-
-total-ones : (n : ℕ) → total n (λ k. 1) ≡ n
-unfolding total
-total-ones zero = refl
-total-ones (suc n) = omega (arith, total-ones n)
 
 -- of n odd terms
 pub sum-odd : (n : ℕ) (g : ℕ → ℕ) → ((k : ℕ) → k < n → parity (g k) ≡ 1) → parity (xorSum n g) ≡ n % 2
