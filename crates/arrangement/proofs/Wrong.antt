@@ -11,7 +11,7 @@ use borrow.Author.Tests.{eq-eqb, ne-eqb, le-leb, lt-leb}
 use lib.Bits.{bitOr, or-zero-l, or-zero-r, or-self, or-lt}
 use lib.Dec.{eqb, leb, ltb, ltb→lt}
 use lib.ListN.{length, getD}
-use Rattle.indexed.proofs.Onto.{occurs-twice, two-occur, every-value, one-to-one}
+use Rattle.indexed.proofs.Onto.{occurs-twice, occurs-once, every-value, one-to-one}
 use Rattle.indexed.proofs.Test.{tested, equal, equal₂}
 use Rattle.register.specs.Bit.{bit}
 use Rattle.register.proofs.Bit.{bit-lt}
@@ -19,7 +19,7 @@ use Rattle.register.proofs.Expand.{bit-of-zero, bits-ext}
 use Rattle.register.proofs.Ones.{bit-or}
 use Rattle.register.proofs.Xor.{digit-ind}
 use Rattle.track_order.specs.Card.{Good, tracksWith, wrongNumber, firstWrong}
-use Rattle.track_order.proofs.Card.{good-none-wrong, none-wrong-good}
+use Rattle.track_order.proofs.Card.{good-none-wrong, bad-wrong}
 
 -- ---- one bit more
 
@@ -96,11 +96,7 @@ module _ (card : List ℕ) where
     good-tested good = le-leb 9 (firstWrong card) (omega (arith, good-none-wrong card good))
 
     bad-tested : (Good card → ⊥) → leb 9 (firstWrong card) ≡ false
-    bad-tested bad = by (decLt (firstWrong card) 9)
-      where
-        by : Dec (firstWrong card < 9) → leb 9 (firstWrong card) ≡ false
-        by (yes b) = lt-leb 9 (firstWrong card) b
-        by (no b) = absurd (bad (none-wrong-good card nine (omega arith)))
+    bad-tested bad = lt-leb 9 (firstWrong card) (bad-wrong card nine bad)
 
     -- a number above 8
     pub above-tested : (k : ℕ) → k < 9 → 9 ≤ getD card k 0 → false ≡ leb 9 (firstWrong card)
@@ -148,10 +144,6 @@ module _ (card : List ℕ) where
     pub alone-right : getD card place 0 < 9 → ((k : ℕ) → k < length card → getD card k 0 ≡ getD card place 0 → k ≡ place)
         → false ≡ wrongNumber card (getD card place 0)
     unfolding wrongNumber
-    alone-right small alone = sym (ap₂ _||_ (lt-leb 9 _ small) (lt-leb 2 _ (once (decLt (tracksWith card (getD card place 0)) 2))))
-      where
-        once : Dec (tracksWith card (getD card place 0) < 2) → tracksWith card (getD card place 0) < 2
-        once (yes b) = b
-        once (no b) =
-            let two = two-occur (length card) (λ k. getD card k 0) (getD card place 0) (omega arith) in
-            absurd (two .4 (alone (two .0) (two .2) (two .5) ∙ sym (alone (two .1) (two .3) (two .6))))
+    alone-right small alone =
+        sym (ap₂ _||_ (lt-leb 9 _ small)
+        (lt-leb 2 _ (occurs-once (length card) (λ k. getD card k 0) (getD card place 0) (λ j k hj hk ej ek. alone j hj ej ∙ sym (alone k hk ek)))))

@@ -21,7 +21,8 @@ pub fn standard() -> Card
     STANDARD
 }
 
-// Whether the card is good, by its numbers as bits: nine numbers below nine that make all nine bits are no two the same.
+// Whether the card is good, by its numbers as bits: nine numbers below nine make the map of all nine tracks exactly if no two
+// of them are the same.
 pub fn is_good(card: &[u8]) -> bool
     requires { ⌜ length (now card) ≡ tracks ⌝ }
     ensures { λ r. ⌜ r ≡ leb tracks (firstWrong (now (card .entry))) ⌝ }
@@ -88,7 +89,7 @@ pub fn way(toward: Toward, card: &[u8]) -> Card
 
 // The place in code order of the track that has a place in head order.
 fn across(card: &[u8], place: usize) -> usize
-    requires { ⌜ (length (now card) ≡ tracks) × (place < tracks) ⌝ }
+    requires { ⌜ Permutation (now card) × (place < tracks) ⌝ }
     ensures { λ r. ⌜ r ≡ getD (now (card .entry)) place 0 ⌝ }
 {
     PhysicalTrack::at(place).algebraic(card).place()

@@ -12,7 +12,7 @@ ghost use lib.ListN.{length, drop};
 ghost use Rattle.rectangular.specs.Constants.{tracks};
 ghost use Rattle.track_order.specs.Order.{Permutation, arranged, arrangedMap};
 
-// Nine numbers below nine: a card, its inverse card, or a way.
+// Nine numbers: a card, its inverse card, or a way.
 pub type Card = [u8; Code6250::TRACKS];
 
 // Puts nine words at the front of the target.

@@ -29,7 +29,7 @@ impl PhysicalTrack {
 
     // The only way from one numbering to the other.
     pub fn algebraic(self, card: &[u8]) -> AlgebraicTrack
-        requires { ⌜ (1 ≤ self .0) × (self .0 ≤ length (now card)) ⌝ }
+        requires { ⌜ (1 ≤ self .0) × (self .0 ≤ length (now card)) × (getD (now card) (self .0 - 1) 0 < tracks) ⌝ }
         ensures { λ r. ⌜ r .0 ≡ getD (now (card .entry)) (self .0 - 1) 0 ⌝ }
     {
         let place = self.0 - 1;

@@ -53,11 +53,11 @@ pub fn inverse(card: &[u8], numbers: &mut Card) -> Stored
     ensures output { λ r. ⌜ now (numbers .exit) ≡ figuresAfter (inverseAnswer (now (card .entry))) (now (numbers .entry)) ⌝ }
     ensures terms { λ r. ⌜ Terms (Call.invertCard (now (card .entry))) (toldStored r (now (numbers .exit))) [] [] ⌝ }
 {
-    let answer = checked(card);
-    if let Stored::Delivered = answer {
+    let told = checked(card);
+    if let Stored::Delivered = told {
         *numbers = card::inverse(card);
     }
-    answer
+    told
 }
 
 // Refusals 12, 1, 2 and 11, in this order, or none: the stray bits are asked with the moving.

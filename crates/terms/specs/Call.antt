@@ -56,11 +56,11 @@ resultOf (moveWords toward card source) = movedWords toward card source
 resultOf (moveMap toward card m) = []
 resultOf (invertCard card) = []
 
--- how many places there are for a refusal by 11, which tells a physical track, 1 to 9, and for one by another number
+-- places below this bound: a refusal by 11 tells a physical track, 1 to 9, and one by another number something else
 unfoldable pub cardPlaces : ℕ → ℕ → ℕ
 cardPlaces others number = cond (eqb number (numberOf CardContent)) (suc tracks) others
 
--- how many groups, characters or words a call brings: the place of a refusal by this number is one of them, or 0
+-- how many groups, characters or words a call brings: the place of a refusal by this number is one of them, or 0, or by 11 a track
 unfoldable pub places : Call → ℕ → ℕ
 places (write d bytes) number = 0
 places (read (at6250 backward words maps)) number = length maps

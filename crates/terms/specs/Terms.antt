@@ -10,7 +10,7 @@ use Prim.Native.Nat.{ℕ, _*_, _<_, _≤_}
 use lib.Dec.{eqb}
 use lib.ListN.{length, getD, take, drop}
 use Rattle.answer.specs.Answer.{Answer, delivered, refused, refusals, outputAfter}
-use Rattle.rectangular.specs.Constants.{tracks, numbersPerGroup}
+use Rattle.rectangular.specs.Constants.{tracks, numbersPerGroup, mostWord, mostMap}
 use Rattle.record6250.specs.Fits as six
 use Rattle.record6250.specs.Fits.{mapsChanged}
 use Rattle.record6250.specs.Picture.{groupRead, pictureMaps, turnedNumbers}
@@ -20,7 +20,7 @@ use Rattle.sense_log.specs.Back.{readLogAnswer, mapsOf}
 use Rattle.sense_log.specs.Log.{logSpace, logOf}
 use Rattle.sense_log.specs.Written.{logAnswer, readingLog}
 use Rattle.track_order.specs.declared.Toward.{Toward}
-use Rattle.track_order.specs.Card.{InverseCard}
+use Rattle.track_order.specs.Card.{Good, InverseCard}
 use Rattle.track_order.specs.Moved.{cardWordsAnswer, cardMapAnswer, inverseAnswer}
 use Rattle.track_order.specs.Order.{back, movedWords, movedMap}
 use Rattle.terms.specs.Call.{Call, write, read, log, readLog, moveWords, moveMap, invertCard, resultOf, places}
@@ -78,31 +78,40 @@ unfoldable pub LogsAgain : ℕ → List ℕ → Answer → List ℕ → Type 0
 LogsAgain groups bytes answer after =
     ((k : ℕ) → getD bytes k 0 < 256) → (figures : List ℕ) → answer ≡ delivered figures → logOf (take groups after) ≡ bytes
 
--- Of nine words that are moved by a card (document 02, request 2.4: "moving nine words or a map out and back, unrefused, restores them"): what is
--- stored, moved the other way by the same card, is delivered and gives the words; and so with a map that is told.
-unfoldable pub RestoresWords : Toward → List ℕ → List ℕ → Answer → List ℕ → Type 0
-RestoresWords toward card source answer after =
-    (figures : List ℕ) → answer ≡ delivered figures → (space : ℕ) → tracks ≤ space
-    → (cardWordsAnswer card (take tracks after) space ≡ delivered []) × (movedWords (back toward) card (take tracks after) ≡ source)
+-- Of nine words that are moved by a card (document 02, request 2.4: "moving nine words or a map out and back, unrefused, restores them under every
+-- good card"): they are delivered if the card is good, the words have no stray bits and there is space, and only by a good card; and what is
+-- stored, moved the other way by the same card, is delivered and gives the words.
+pub record MovesWords (toward : Toward) (card source : List ℕ) (answer : Answer) (before after : List ℕ) : Type 0 where
+  pub is-delivered : Good card → length source ≡ tracks → ((k : ℕ) → k < tracks → getD source k 0 ≤ mostWord) → tracks ≤ length before
+      → answer ≡ delivered []
+  pub by-good : (figures : List ℕ) → answer ≡ delivered figures → Good card
+  pub restored : (figures : List ℕ) → answer ≡ delivered figures → (space : ℕ) → tracks ≤ space
+      → (cardWordsAnswer card (take tracks after) space ≡ delivered []) × (movedWords (back toward) card (take tracks after) ≡ source)
 
-unfoldable pub RestoresMap : Toward → List ℕ → ℕ → Answer → Type 0
-RestoresMap toward card m answer =
-    (figures : List ℕ) → answer ≡ delivered figures → cardMapAnswer card (movedMap (back toward) card) (getD figures 0 0) ≡ delivered (m ∷ [])
+-- And so of a map, which is told.
+pub record MovesMap (toward : Toward) (card : List ℕ) (m : ℕ) (answer : Answer) : Type 0 where
+  pub is-delivered : Good card → m ≤ mostMap → answer ≡ delivered (movedMap toward card m ∷ [])
+  pub by-good : (figures : List ℕ) → answer ≡ delivered figures → Good card
+  pub restored : (figures : List ℕ) → answer ≡ delivered figures
+      → cardMapAnswer card (movedMap (back toward) card) (getD figures 0 0) ≡ delivered (m ∷ [])
 
--- Of a card that is inverted: what is told is an inverse card of it, no other list is, and the card is told of that one in turn.
-pub record OneInverse (card figures : List ℕ) : Type 0 where
-  pub is-inverse : InverseCard card figures
-  pub only-inverse : (others : List ℕ) → InverseCard card others → others ≡ figures
-  pub inverted-back : inverseAnswer figures ≡ delivered card
+-- Of a card that is inverted ("each good card has one inverse card"): a good card is delivered, and no other; what is told is an inverse card of it,
+-- no other list is, and its own inverse is the card.
+pub record Inverts (card : List ℕ) (answer : Answer) : Type 0 where
+  pub is-delivered : Good card → (figures : List ℕ) × (answer ≡ delivered figures)
+  pub by-good : (figures : List ℕ) → answer ≡ delivered figures → Good card
+  pub is-inverse : (figures : List ℕ) → answer ≡ delivered figures → InverseCard card figures
+  pub only-inverse : (figures other : List ℕ) → answer ≡ delivered figures → InverseCard card other → other ≡ figures
+  pub inverted-back : (figures : List ℕ) → answer ≡ delivered figures → inverseAnswer figures ≡ delivered card
 
 unfoldable pub SecondTerm : Call → Answer → List ℕ → List ℕ → Type 0
 SecondTerm (write d bytes) answer before after = Writes d bytes answer before after
 SecondTerm (read r) answer before after = Reads r answer before after
 SecondTerm (log backward words maps) answer before after = Logs backward words maps answer before after
 SecondTerm (readLog groups bytes) answer before after = LogsAgain groups bytes answer after
-SecondTerm (moveWords toward card source) answer before after = RestoresWords toward card source answer after
-SecondTerm (moveMap toward card m) answer before after = RestoresMap toward card m answer
-SecondTerm (invertCard card) answer before after = (figures : List ℕ) → answer ≡ delivered figures → OneInverse card figures
+SecondTerm (moveWords toward card source) answer before after = MovesWords toward card source answer before after
+SecondTerm (moveMap toward card m) answer before after = MovesMap toward card m answer
+SecondTerm (invertCard card) answer before after = Inverts card answer
 
 -- ---- the third term
 

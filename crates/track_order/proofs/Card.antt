@@ -12,7 +12,7 @@ use lib.Dec.{eqb, leb}
 use lib.ListN.{length, getD}
 use Rattle.indexed.specs.List.{total, firstWhere, occurrences}
 use Rattle.indexed.proofs.First.{first-at, first-none, first-before, first-found}
-use Rattle.indexed.proofs.Onto.{occurs-twice, two-occur, every-value}
+use Rattle.indexed.proofs.Onto.{occurs-twice, occurs-once, same-place, every-value}
 use Rattle.indexed.proofs.Test.{both-false}
 use Rattle.track_order.specs.Card.{Good, InverseCard, tracksWith, wrongNumber, firstWrong}
 use Rattle.track_order.specs.Order.{standardCard, indexIn, inverse, Permutation}
@@ -75,15 +75,9 @@ good-none-wrong card good =
     (λ k h. ap₂ _||_ (lt-leb 9 (getD card k 0) (good .within k h)) (lt-leb 2 _ (few (getD card k 0))))
   where
     few : (a : ℕ) → tracksWith card a < 2
-    few a = by (decLt (tracksWith card a) 2)
-      where
-        by : Dec (tracksWith card a < 2) → tracksWith card a < 2
-        by (yes b) = b
-        by (no b) =
-            let two = two-occur (length card) (λ k. getD card k 0) a (omega arith) in
-            absurd (two .4
-            (good .apart (two .0) (two .1) (omega (arith, two .2, good .nine-numbers)) (omega (arith, two .3, good .nine-numbers))
-            (two .5 ∙ sym (two .6))))
+    few a =
+        occurs-once (length card) (λ k. getD card k 0) a
+        (λ j k hj hk ej ek. good .apart j k (rw (good .nine-numbers) at hj) (rw (good .nine-numbers) at hk) (ej ∙ sym ek))
 
 -- a card of nine numbers, none of which is wrong, is good
 module _ (card : List ℕ) (nine : length card ≡ 9) (none : 9 ≤ firstWrong card) where
@@ -100,13 +94,16 @@ module _ (card : List ℕ) (nine : length card ≡ 9) (none : 9 ≤ firstWrong c
   none-wrong-good = record {
     nine-numbers = nine;
     within = λ k h. leb-false 9 (getD card k 0) (right k h .0);
-    apart = λ j k hj hk e. by j k hj hk e (decLt j k) (decLt k j);
+    apart = same-place 9 (λ k. getD card k 0) once-each;
   }
-    where
-      by : (j k : ℕ) → j < 9 → k < 9 → getD card j 0 ≡ getD card k 0 → Dec (j < k) → Dec (k < j) → j ≡ k
-      by j k hj hk e (yes less) behind = absurd (once-each j k less hk e)
-      by j k hj hk e (no front) (yes less) = absurd (once-each k j less hj (sym e))
-      by j k hj hk e (no front) (no behind) = omega arith
+
+-- and nine numbers that make no good card have a wrong one
+pub bad-wrong : (card : List ℕ) → length card ≡ 9 → (Good card → ⊥) → firstWrong card < 9
+bad-wrong card nine bad = by (decLt (firstWrong card) 9)
+  where
+    by : Dec (firstWrong card < 9) → firstWrong card < 9
+    by (yes b) = b
+    by (no b) = absurd (bad (none-wrong-good card nine (omega arith)))
 
 -- ---- the standard card: the checker computes that none of its numbers is wrong
 

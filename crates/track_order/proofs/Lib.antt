@@ -3,3 +3,4 @@ pub mod Card
 pub mod Rows
 pub mod Moved
 pub mod Restored
+pub mod Example

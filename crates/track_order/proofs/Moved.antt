@@ -4,7 +4,6 @@ use mathlib.Core.Path.{_≡_, refl, sym, ap, _∙_}
 use mathlib.Core.Bool.{Bool, true, false, cond}
 use mathlib.Core.List.{List, [], _∷_}
 use Prim.Native.Nat.{ℕ, suc, _<_, _≤_}
-use native.Mathlib.Decide.{decLt}
 use native.Mathlib.Omega.{arith}
 use borrow.Author.Tests.{eqb-true, le-leb, lt-leb, leb-true, ltb-true, ltb-false}
 use lib.Dec.{eqb, leb, ltb}
@@ -17,7 +16,7 @@ use Rattle.slices.specs.Above.{firstAbove}
 use Rattle.track_order.specs.Card.{Good, firstWrong}
 use Rattle.track_order.specs.Moved.{ifNineWords, ifNoStray, ifNineNumbers, ifNoneWrong, wordsAnswer, mapAnswer, cardWordsAnswer, cardMapAnswer, inverseAnswer}
 use Rattle.track_order.specs.Order.{inverse}
-use Rattle.track_order.proofs.Card.{good-none-wrong, none-wrong-good}
+use Rattle.track_order.proofs.Card.{good-none-wrong, none-wrong-good, bad-wrong}
 use Rattle.track_order.proofs.Rows.{card-nine, card-content, card-right, words-fit}
 
 module _ (moved : ℕ → ℕ) (m : ℕ) where
@@ -32,14 +31,6 @@ module _ (moved : ℕ → ℕ) (m : ℕ) where
       ∙ sym (ap (λ (b : Bool). cond b (delivered (moved m ∷ [])) (refusedFor StrayBits 0)) (le-leb m 511 h))
 
 -- ---- the checks of a card
-
--- nine numbers that make no good card have a wrong one
-is-wrong : (card : List ℕ) → length card ≡ 9 → (Good card → ⊥) → firstWrong card < 9
-is-wrong card nine bad = by (decLt (firstWrong card) 9)
-  where
-    by : Dec (firstWrong card < 9) → firstWrong card < 9
-    by (yes b) = b
-    by (no b) = absurd (bad (none-wrong-good card nine (omega arith)))
 
 module _ (card : List ℕ) (next : Answer) where
   -- a good card passes both
@@ -129,7 +120,7 @@ module _ (source : List ℕ) (space : ℕ) where
         → cardWordsAnswer card source space ≡ refusedFor CardContent (suc (firstWrong card))
     unfolding cardWordsAnswer
     words-wrong nine words enough bad =
-        card-nine card _ nine ∙ words-fit (length source) space _ words enough ∙ card-content card _ (is-wrong card nine bad)
+        card-nine card _ nine ∙ words-fit (length source) space _ words enough ∙ card-content card _ (bad-wrong card nine bad)
 
     pub wrong-words : (place : ℕ) → cardWordsAnswer card source space ≡ refusedFor CardContent place
         → (length card ≡ 9) × (length source ≡ 9) × (9 ≤ space) × (Good card → ⊥) × (place ≡ suc (firstWrong card))
@@ -146,7 +137,7 @@ module _ (source : List ℕ) (space : ℕ) where
 
 module _ (card : List ℕ) where
   module _ (next : Answer) where
-    pub good-card : Good card → ifNineNumbers card (ifNoneWrong card next) ≡ next
+    good-card : Good card → ifNineNumbers card (ifNoneWrong card next) ≡ next
     good-card good = good-numbers card _ good ∙ good-right card next good
 
     pub card-passed : (figures : List ℕ) → ifNineNumbers card (ifNoneWrong card next) ≡ delivered figures → Good card × (next ≡ delivered figures)
@@ -169,11 +160,11 @@ module _ (card : List ℕ) where
         by false t e = e
 
     -- 11 is given exactly if the card is not good, once its length has passed
-    pub card-wrong : length card ≡ 9 → (Good card → ⊥)
+    card-wrong : length card ≡ 9 → (Good card → ⊥)
         → ifNineNumbers card (ifNoneWrong card next) ≡ refusedFor CardContent (suc (firstWrong card))
-    card-wrong nine bad = card-nine card _ nine ∙ card-content card next (is-wrong card nine bad)
+    card-wrong nine bad = card-nine card _ nine ∙ card-content card next (bad-wrong card nine bad)
 
-    pub wrong-card : (place : ℕ) → ((q : ℕ) → next ≡ refusedFor CardContent q → ⊥)
+    wrong-card : (place : ℕ) → ((q : ℕ) → next ≡ refusedFor CardContent q → ⊥)
         → ifNineNumbers card (ifNoneWrong card next) ≡ refusedFor CardContent place
         → (length card ≡ 9) × (Good card → ⊥) × (place ≡ suc (firstWrong card))
     unfolding ifNineNumbers

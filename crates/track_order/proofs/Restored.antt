@@ -7,6 +7,7 @@ use Prim.Native.Nat.{ℕ, _<_, _≤_}
 use native.Mathlib.Nat.{zero-lt-suc}
 use native.Mathlib.Decide.{decLt}
 use native.Mathlib.Omega.{arith}
+use borrow.Author.Tests.{le-ltb, ltb-false}
 use lib.Dec.{ltb}
 use lib.ListN.{length, getD, List·getD-eq-default}
 use Rattle.indexed.proofs.First.{first-none, first-before}
@@ -43,6 +44,12 @@ map-out-and-back places p m h =
     ∙ ap ofBits (out-and-back places p (bitsOf 9 m) (length-bitsOf 9 m))
     ∙ ofBits-bitsOf 9 m h
 
+-- nine words of ten bits have no stray one
+pub none-above : (words : List ℕ) → length words ≡ 9 → ((k : ℕ) → k < 9 → getD words k 0 ≤ 1023) → 9 ≤ firstAbove 1023 words
+unfolding firstAbove
+none-above words nine small =
+    omega (arith, first-none (λ v. ltb 1023 v) words 9 (sym nine) (λ k h. le-ltb 1023 (getD words k 0) (small k h)))
+
 module _ (card : List ℕ) (good : Good card) where
   pub way-permutation : (toward : Toward) → Permutation (way toward card)
   way-permutation Physical = good-permutation card good
@@ -73,10 +80,7 @@ module _ (card : List ℕ) (good : Good card) where
     pub none-stray-moved : (source : List ℕ) → length source ≡ 9 → 9 ≤ firstAbove 1023 source → 9 ≤ firstAbove 1023 (movedWords toward card source)
     unfolding firstAbove
     none-stray-moved source nine none =
-        omega (
-          arith,
-          first-none (λ v. ltb 1023 v) (movedWords toward card source) 9 (sym (length-arranged (way toward card) source))
-              (λ k h. let place = way-permutation toward .below k h in
-              ap (ltb 1023) (getD-arranged (way toward card) source k h)
-              ∙ first-before (λ v. ltb 1023 v) source (getD (way toward card) k 0) (omega arith)),
-        )
+        none-above (movedWords toward card source) (length-arranged (way toward card) source)
+        (λ k h. let place = way-permutation toward .below k h in
+        rw (getD-arranged (way toward card) source k h)
+        (ltb-false 1023 _ (first-before (λ v. ltb 1023 v) source (getD (way toward card) k 0) (omega arith))))

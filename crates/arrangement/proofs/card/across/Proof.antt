@@ -1,7 +1,7 @@
 -- `arrangement::card::across` meets its contract: the physical track at the place, its algebraic track, and that one's place.
 -- Assumes nothing.
 use mathlib.Core.Path.{ap, _∙_}
-use Prim.Native.Nat.{ℕ}
+use Prim.Native.Nat.{ℕ, _-_}
 use native.Mathlib.Omega.{arith}
 use borrow.Author.Needs.{needs}
 use denote.Ref.{now}
@@ -13,7 +13,12 @@ at-requires : tie.Need-at-requires
 at-requires c κs = search needs
 
 algebraic-requires : tie.Need-algebraic-requires
-algebraic-requires c κs = search needs
+algebraic-requires c κs =
+    let start = c .before .before in (
+      omega (arith, c .at .ensures),
+      omega (arith, c .at .ensures, start .pre .0 .nine),
+      start .pre .0 .below (c .at .result .0 - 1) (omega (arith, c .at .ensures)),
+    )
 
 place-requires : tie.Need-place-requires
 place-requires c κs = search needs

@@ -33,7 +33,7 @@ cast-if1 : tie.Need-cast-if1 Inv-loop μ-loop
 cast-if1 c = omega (arith, c .shared-slice-known .given (c .before .before .loop .k - 1))
 
 returns : tie.Need-returns Inv-loop μ-loop
-returns c = above-tested _ (c .before .before .before .before .pre) (c .before .before .before .loop .k - 1) (omega arith) (c .if1 .taken)
+returns c = above-tested _ (c .before .before .before .before .pre) (c .before .before .before .loop .k - 1) (omega arith) (omega arith)
 
 cast-seen : tie.Need-cast-seen Inv-loop μ-loop
 cast-seen c = omega arith
@@ -50,7 +50,7 @@ loop-again c =
     let card = now (c .before .before .before .before .args .card) in
     let k : at .k - 1 + 1 ≡ at .k = omega arith in
     let number : ℕ = getD card (at .k - 1) 0 in
-    let small : number < 9 = c .if1 .left in (
+    let small : number < 9 = omega arith in (
       omega arith,
       rw (shifted-one number small) (seen-more card (at .k - 1) (at .seen) (omega (arith, c .before .before .before .before .pre)) (rw k (at .inv .1)) small),
       λ j from below. by card (at .k - 1) small (λ i later within. at .inv .2 i (omega arith) within) j from below (ℕ-discrete j (at .k - 1)),

@@ -1,11 +1,11 @@
 -- `head_order::standard::words` meets its contract: the card is the standard one, which is good.
 -- Assumes nothing.
-use mathlib.Core.Path.{sym, _∙_}
+use mathlib.Core.Path.{_∙_}
 use borrow.Author.Needs.{needs}
 use denote.Ref.{now}
 use Rattle.track_order.proofs.Card.{standard-good, good-permutation}
-use Rattle.track_order.proofs.Moved.{good-words}
 use Rattle.track_order.proofs.Restored.{way-permutation}
+use Rattle.terms.proofs.Moved.{standard-words}
 use Rattle.terms.proofs.Terms.{terms-hold}
 use Rattle.terms.specs.Call.{standardWords, answerTo, resultOf}
 use Rattle.head_order.proofs.standard.words.Statement.{statement}
@@ -36,7 +36,7 @@ returns c =
     let at = made .before in
     let args = at .before .before .before .before .args in
     let done = rw (made .way .ensures, at .before .standard .ensures) at (put .words .ensures) in
-    (done .0, (done .1, terms-hold _ _ _ (standardWords (args .toward) (now (args .source))) (done .0 ∙ sym (good-words _ _ _ standard-good)) (done .1)))
+    (done .0, (done .1, terms-hold _ _ _ (standardWords (args .toward) (now (args .source))) (done .0 ∙ standard-words (args .toward) _ _) (done .1)))
 
 pub words-spec : {M : Type 1} → statement M
 words-spec = tie.close (tie.spec standard-requires slice-aggregate-way way-requires words-requires same-length returns)
