@@ -7,6 +7,7 @@ mod card;
 mod damage6250;
 mod damage800;
 mod damage_log;
+mod good_card;
 mod head_order;
 mod library;
 mod programs;
@@ -17,6 +18,7 @@ mod record800;
 mod report;
 mod sense_log;
 mod short_cuts;
+mod spoiled_card;
 mod spoiled_log;
 mod vectors;
 
@@ -241,20 +243,20 @@ fn suites_of_head_order() -> Vec<Suite> {
 fn suites_of_cards() -> Vec<Suite> {
     named([
         ("the card calls of these tests, outside cases", card::outside_cases()),
-        ("words and maps by every card, to physical and back", card::every_card(Toward::Physical)),
-        ("words and maps by every card, to algebraic and back", card::every_card(Toward::Algebraic)),
-        ("the inverse of every card", card::every_inverse()),
-        ("every map by some cards, to physical", card::every_map(Toward::Physical)),
-        ("every map by some cards, to algebraic", card::every_map(Toward::Algebraic)),
-        ("every number on every track of a card", card::every_number()),
-        ("cards of every length up to 20, and of two more", card::every_length()),
-        ("seeded words by seeded cards, to physical", card::random_words(Toward::Physical)),
-        ("seeded words by seeded cards, to algebraic", card::random_words(Toward::Algebraic)),
-        ("seeded maps by seeded cards, to physical", card::random_maps(Toward::Physical)),
-        ("seeded maps by seeded cards, to algebraic", card::random_maps(Toward::Algebraic)),
-        ("inverses of seeded cards", card::random_inverses()),
-        ("the standard card and none, to physical", card::standard_card(Toward::Physical)),
-        ("the standard card and none, to algebraic", card::standard_card(Toward::Algebraic)),
+        ("words and maps by every card, to physical and back", good_card::every_card(Toward::Physical)),
+        ("words and maps by every card, to algebraic and back", good_card::every_card(Toward::Algebraic)),
+        ("the inverse of every card", good_card::every_inverse()),
+        ("every map by some cards, to physical", good_card::every_map(Toward::Physical)),
+        ("every map by some cards, to algebraic", good_card::every_map(Toward::Algebraic)),
+        ("every number on every track of a card", spoiled_card::every_number()),
+        ("cards of every length up to 20, and of two more", spoiled_card::every_length()),
+        ("seeded words by seeded cards, to physical", spoiled_card::random_words(Toward::Physical)),
+        ("seeded words by seeded cards, to algebraic", spoiled_card::random_words(Toward::Algebraic)),
+        ("seeded maps by seeded cards, to physical", spoiled_card::random_maps(Toward::Physical)),
+        ("seeded maps by seeded cards, to algebraic", spoiled_card::random_maps(Toward::Algebraic)),
+        ("inverses of seeded cards", spoiled_card::random_inverses()),
+        ("the standard card and none, to physical", good_card::standard_card(Toward::Physical)),
+        ("the standard card and none, to algebraic", good_card::standard_card(Toward::Algebraic)),
     ])
 }
 
