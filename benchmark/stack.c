@@ -172,8 +172,13 @@ static void reads(const char *forward, const char *backward, size_t limit, void 
 }
 
 /* The calls by a card: by a good one, and refused by one that is short, one with a number above 8 and one with two equal. */
-#define CARDS 4
-static const uint8_t cards[CARDS][9] = {{1, 4, 7, 8, 3, 6, 0, 2, 5}, {1, 4, 7, 8, 3, 6, 0, 2, 5}, {1, 4, 7, 8, 255, 6, 0, 2, 5}, {1, 4, 7, 8, 3, 6, 0, 2, 3}};
+enum { CARDS = 4 };
+static const uint8_t cards[CARDS][9] = {
+    {1, 4, 7, 8, 3, 6, 0, 2, 5},
+    {1, 4, 7, 8, 3, 6, 0, 2, 5},
+    {1, 4, 7, 8, 255, 6, 0, 2, 5},
+    {1, 4, 7, 8, 3, 6, 0, 2, 3},
+};
 static const size_t card_lengths[CARDS] = {9, 8, 9, 9};
 
 static void wiring_cards(void) {

@@ -168,8 +168,7 @@ impl Call {
             Call::ReadLog { marked } => record6250(seeded, length, false, if marked { Damage::OneTrack } else { Damage::Clean }),
             Call::Write800 => record800(seeded, length, false, Damage::Clean),
             Call::Read800 { backward, damage } => record800(seeded, length, backward, damage),
-            Call::Order { .. } | Call::MapOrder { .. } => record_to_move(seeded),
-            Call::CardOrder { .. } | Call::CardMapOrder { .. } | Call::InverseCard => record_to_move(seeded),
+            Call::Order { .. } | Call::MapOrder { .. } | Call::CardOrder { .. } | Call::CardMapOrder { .. } | Call::InverseCard => record_to_move(seeded),
         }
     }
 
