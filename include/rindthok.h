@@ -15,15 +15,15 @@
  *
  * The caller passes valid pointers, each of which holds for the length beside it; what is written through one,
  * outputs and single numbers alike, overlaps nothing else that is passed. A pointer may be NULL where the length
- * beside it is 0: as an input it has no bytes, words, characters or maps, which is a record of empty data to
- * rindthok_write6250, refused by 9 by rindthok_read_log, a card without numbers by 12, and by 1 everywhere else, and as
- * an output it has no space, which is refused by 2, but for the maps of a log of no groups, which is refused by 9. A
- * pointer with no length beside it (`groups`, `size`, `place` and the like) is never NULL.
+ * beside it is 0. As an input it has no bytes, words, characters, maps or numbers, which is a record of empty data to
+ * rindthok_write6250, is refused by 9 by rindthok_read_log, by 12 as a card, and by 1 everywhere else. As an output it has
+ * no space, which is refused by 2, but for the maps of a log of no groups, which is refused by 9. A pointer with no length
+ * beside it (`groups`, `size`, `inverse`, `place` and the like) is never NULL.
  *
  * Places. 3: the lowest group with a stray word or map, the lowest stray character, or the lowest stray word of nine,
  * from 0; for a map by itself 0. 4 and 5: the lowest group, from 0, that has one of the two. 11: the lowest physical
- * track, from 1, whose number the card may not have. 1, 2, 6 to 10 and 12: 0. A backward reading is turned forward first,
- * so its places count from the record's beginning.
+ * track, from 1, whose number on the card is above 8 or stands on another track too. 1, 2, 6 to 10 and 12: 0. A backward
+ * reading is turned forward first, so its places count from the record's beginning.
  *
  * Stack, as measured on x86-64 from the call to the lowest byte touched: a read at 6250 takes 7,728 bytes forward and
  * 7,760 backward, its log 7,824 and 7,856, a log read back 72, a read at 800 at most 1,192, a write 136 at 6250 and
@@ -149,20 +149,23 @@ uint16_t rindthok_words_to_algebraic(const uint16_t *source, size_t source_lengt
 uint16_t rindthok_map_to_physical(uint16_t map, rindthok_physical_map *moved, size_t *place);
 uint16_t rindthok_map_to_algebraic(uint16_t map, rindthok_algebraic_map *moved, size_t *place);
 
-/* The same by a wiring card, for a head that was rewired: nine numbers, for physical tracks 1 to 9 the algebraic track,
- * 0 to 8, each once. What is moved by a card is restored by moving it back by the same card, words and maps alike; words
- * and maps of one head go by one card. By the standard card these calls answer as those above do.
+/* The same by a wiring card, for a head that was rewired: nine numbers, 0 to 8, each once; card[p - 1] is the algebraic
+ * track of physical track p. What is moved by a card is restored by moving it back by the same card, words and maps alike.
+ * A good card need not be this head's: by another one words and maps go to other tracks, and nothing can tell. Words and
+ * maps of one head go by one card. By the standard card these calls answer as those above do. The target is another array
+ * than the source, here as above.
  * Refusals of words, from top to bottom: 12 if the card does not have nine numbers; 1; 2; 11 if a number is above 8 or
- * stands on two tracks, with the lowest physical track, 1 to 9, that has such a number as its place (of two equal numbers
- * the first one's); 3. Of a map: 12, 11, 3. */
+ * stands on two tracks, and its place is the lowest physical track, 1 to 9, that has such a number (of two equal numbers
+ * the first one's track); 3. Of a map: 12, 11, 3. */
 uint16_t rindthok_card_words_to_physical(const uint8_t *card, size_t card_length, const uint16_t *source, size_t source_length, uint16_t *target, size_t target_length, size_t *place);
 uint16_t rindthok_card_words_to_algebraic(const uint8_t *card, size_t card_length, const uint16_t *source, size_t source_length, uint16_t *target, size_t target_length, size_t *place);
 uint16_t rindthok_card_map_to_physical(const uint8_t *card, size_t card_length, uint16_t map, rindthok_physical_map *moved, size_t *place);
 uint16_t rindthok_card_map_to_algebraic(const uint8_t *card, size_t card_length, uint16_t map, rindthok_algebraic_map *moved, size_t *place);
 
-/* The inverse card: for algebraic tracks 0 to 8 the physical track less 1. Each good card has one, and is the inverse of
- * its inverse; to move one way by a card is to move the other way by its inverse. Refusals: 12, 11; the nine numbers are
- * then as they were. */
+/* The inverse card: for algebraic tracks 0 to 8 the physical track less 1, so that inverse[a] is p - 1 where card[p - 1]
+ * is a. Each good card has one, and is the inverse of its inverse. It is not needed to move back, for which the same card
+ * is passed to the other call; the inverse card, passed to the other call, moves the first way once more. `inverse` is
+ * another array than `card`. Refusals: 12, 11, with places as above; the nine numbers are then as they were. */
 uint16_t rindthok_inverse_card(const uint8_t *card, size_t card_length, uint8_t inverse[9], size_t *place);
 
 #ifdef __cplusplus
