@@ -68,11 +68,8 @@ extern "C" {
         changes: *mut usize,
         place: *mut usize,
     ) -> u16;
-    #[allow(dead_code)]
     pub fn rindthok_map_to_physical(map: u16, moved: *mut u16, place: *mut usize) -> u16;
-    #[allow(dead_code)]
     pub fn rindthok_map_to_algebraic(map: u16, moved: *mut u16, place: *mut usize) -> u16;
-    #[allow(dead_code)]
     pub fn rindthok_card_words_to_physical(
         card: *const u8,
         card_length: usize,
@@ -82,7 +79,6 @@ extern "C" {
         targets: usize,
         place: *mut usize,
     ) -> u16;
-    #[allow(dead_code)]
     pub fn rindthok_card_words_to_algebraic(
         card: *const u8,
         card_length: usize,
@@ -92,10 +88,7 @@ extern "C" {
         targets: usize,
         place: *mut usize,
     ) -> u16;
-    #[allow(dead_code)]
     pub fn rindthok_card_map_to_physical(card: *const u8, card_length: usize, map: u16, moved: *mut u16, place: *mut usize) -> u16;
-    #[allow(dead_code)]
     pub fn rindthok_card_map_to_algebraic(card: *const u8, card_length: usize, map: u16, moved: *mut u16, place: *mut usize) -> u16;
-    #[allow(dead_code)]
     pub fn rindthok_inverse_card(card: *const u8, card_length: usize, inverse: *mut u8, place: *mut usize) -> u16;
 }
