@@ -45,6 +45,7 @@ abbrev pub way : Toward → List ℕ → List ℕ
 way Physical card = card
 way Algebraic card = inverse card
 
+-- the other order, from which numbers are moved there
 abbrev pub back : Toward → Toward
 back Physical = Algebraic
 back Algebraic = Physical
