@@ -1,3 +1,4 @@
 pub mod Apart
 pub mod Listed
 pub mod Passed
+pub mod Retold

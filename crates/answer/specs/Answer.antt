@@ -53,6 +53,11 @@ unfoldable pub outputAfter : Answer → List ℕ → List ℕ → List ℕ
 outputAfter (delivered values) result output = result ++ drop (length result) output
 outputAfter (refused number place) result output = output
 
+-- An answer made of another call's: a delivery tells other figures, made of that call's, and a refusal is passed on as it is.
+abbrev pub retold : (List ℕ → List ℕ) → Answer → Answer
+retold tells (delivered figures) = delivered (tells figures)
+retold tells (refused number place) = refused number place
+
 -- the numbers that receive a delivery's figures, and that a refusal leaves
 abbrev pub figuresAfter : Answer → List ℕ → List ℕ
 figuresAfter (delivered figures) before = figures

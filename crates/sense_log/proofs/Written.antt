@@ -13,8 +13,8 @@ use borrow.Author.Tests.{leb-true}
 use Rattle.indexed.specs.List.{total}
 use Rattle.indexed.proofs.Tabulate.{length-tabulate, getD-tabulate}
 use Rattle.indexed.proofs.Total.{total-same}
-use Rattle.answer.specs.Answer.{Answer, delivered, refused}
-use Rattle.answer.proofs.Apart.{not-both}
+use Rattle.answer.specs.Answer.{delivered}
+use Rattle.answer.proofs.Retold.{retold-delivered, retold-refused}
 use Rattle.rectangular.proofs.Changed.{changed-lt}
 use Rattle.record6250.specs.Fits.{Passes}
 use Rattle.record6250.specs.Picture.{pictureMaps, turnedNumbers}
@@ -33,15 +33,6 @@ use Rattle.sense_log.proofs.Bits.{length-log, bits-below}
 -- a log has space where there are two bytes for every group
 pub log-within : (maps : List ℕ) → length (logOf maps) ≤ logSpace (length maps)
 log-within maps = omega (arith, length-log maps, bits-below maps (length maps))
-
--- the answer for a reading that is delivered, and for one that is refused
-pub logged-delivered : (size : ℕ) (answer : Answer) (figures : List ℕ) → logged size answer ≡ delivered figures
-    → (figures ≡ size ∷ []) × ((told : List ℕ) × (answer ≡ delivered told))
-logged-delivered size (delivered told) figures e = (cc, (told, refl))
-logged-delivered size (refused number place) figures e = absurd (not-both figures number place (sym e))
-
-pub logged-refused : (size other : ℕ) (answer : Answer) (number place : ℕ) → answer ≡ refused number place → logged size answer ≡ logged other answer
-logged-refused size other answer number place e = ap (logged size) e ∙ sym (ap (logged other) e)
 
 module _ (backward : Bool) (words maps : List ℕ) where
   pub length-changed : length (changedMaps backward words maps) ≡ length maps
@@ -69,9 +60,9 @@ module _ (backward : Bool) (words maps : List ℕ) where
       → Passes backward words maps × (logSpace (length maps) ≤ space) × (figures ≡ length (readingLog backward words maps) ∷ [])
   unfolding logAnswer
   log-passed space figures e =
-      let told = logged-delivered (length (readingLog backward words maps)) (answerIf backward words maps (leb (logSpace (length maps)) space)) figures e in
-      let passed = delivered-if backward words maps (leb (logSpace (length maps)) space) (told .1 .0) (told .1 .1) in
-      (passed .0, leb-true (logSpace (length maps)) space (passed .1), told .0)
+      let told = retold-delivered _ (answerIf backward words maps (leb (logSpace (length maps)) space)) figures e in
+      let passed = delivered-if backward words maps (leb (logSpace (length maps)) space) (told .0) (told .1) in
+      (passed .0, leb-true (logSpace (length maps)) space (passed .1), told .2)
 
   pub reading-log-within : length (readingLog backward words maps) ≤ logSpace (length maps)
   unfolding readingLog
@@ -117,6 +108,4 @@ module _ (backward : Bool) (words maps : List ℕ) where
           ≡ logged (length (readingLog backward words maps)) (answerIf backward words maps enough)
       by true e = ap (λ (l : List ℕ). logged (length l) (answerIf backward words maps enough)) (log-turned e)
       by false e =
-          let short = length-refused backward words maps enough e in
-          logged-refused (length (readingLog (not backward) (turnedNumbers words) (pictureMaps true maps))) (length (readingLog backward words maps))
-          (answerIf backward words maps enough) 1 0 short
+          retold-refused _ _ (answerIf backward words maps enough) 1 0 (length-refused backward words maps enough e)

@@ -6,14 +6,13 @@ use mathlib.Core.Bool.{Bool}
 use mathlib.Core.List.{List, [], _∷_}
 use lib.Dec.{leb}
 use lib.ListN.{length}
-use Rattle.answer.specs.Answer.{Answer, delivered, refused}
+use Rattle.answer.specs.Answer.{Answer, retold}
 use Rattle.record6250.specs.Read.{changedMaps, answerIf}
 use Rattle.sense_log.specs.Log.{logSpace, logOf}
 
 -- the answer for a log of so many bytes, if its reading is answered so
 abbrev pub logged : ℕ → Answer → Answer
-logged size (delivered figures) = delivered (size ∷ [])
-logged size (refused number place) = refused number place
+logged size answer = retold (λ figures. size ∷ []) answer
 
 module _ (backward : Bool) (words maps : List ℕ) where
   -- the log of a reading: of the maps of its changed tracks, in forward order

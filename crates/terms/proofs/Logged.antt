@@ -11,6 +11,7 @@ use lib.Dec.{eqb, leb}
 use lib.ListN.{length, getD, take, drop}
 use lib.Seq.{take-append-seam}
 use Rattle.answer.specs.Answer.{Answer, delivered, outputAfter}
+use Rattle.answer.proofs.Retold.{retold-delivered}
 use Rattle.indexed.proofs.Tabulate.{getD-tabulate}
 use Rattle.indexed.proofs.Test.{flag-lt}
 use Rattle.rectangular.specs.Constants.{tracks}
@@ -26,7 +27,7 @@ use Rattle.record6250.specs.Read.{readGroup, readData, judgedAnswer, answerIf}
 use Rattle.sense_log.proofs.Again.{log-again}
 use Rattle.sense_log.proofs.Answer.{back-delivered}
 use Rattle.sense_log.proofs.Back.{length-mapsOf}
-use Rattle.sense_log.proofs.Written.{logged-delivered, log-passed, reading-log-back, reading-log-delivered, log-turned, log-answer-turned}
+use Rattle.sense_log.proofs.Written.{log-passed, reading-log-back, reading-log-delivered, log-turned, log-answer-turned}
 use Rattle.sense_log.specs.Back.{readLogAnswer, mapsOf}
 use Rattle.sense_log.specs.Log.{logSpace, logOf}
 use Rattle.sense_log.specs.Written.{logged, readingLog, logAnswer}
@@ -105,7 +106,7 @@ module _ (backward : Bool) (words maps : List ℕ) (answer : Answer) (before aft
     has-one : (figures : List ℕ) → answer ≡ delivered figures → (bytes : List ℕ) × OneFits (at6250 backward words maps) bytes
     unfolding Fits logAnswer
     has-one figures e =
-        let told = logged-delivered (length (readingLog backward words maps)) _ figures (sym answers ∙ e) .1 in
+        let told = retold-delivered _ (answerIf backward words maps (leb (logSpace (length maps)) (length before))) figures (sym answers ∙ e) in
         let f = delivered-fits backward words maps passes (told .0) (sym judged ∙ told .1) in (
           readData backward words maps,
           record { fits = f; only = λ others g. only-one backward words maps passes others (readData backward words maps) g f },
