@@ -4,5 +4,6 @@ mod reader;
 pub use reader::read_backward;
 pub use reader::read_forward;
 pub use reader::read_record;
+pub use reader::store;
 pub use scan800::Figures;
 pub use scan800::Read;

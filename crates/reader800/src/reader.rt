@@ -1,13 +1,10 @@
 // Reading a record: it is judged by one pass over its characters, and a second pass stores the data.
-use answer::Reason;
 use cyclic::Code800;
 use scan800::Read;
-use scan800::first_stray;
+use scan800::data_length;
 use scan800::forward_character;
 use scan800::judge_record;
-use scan800::length_suits;
 use scan800::parities::parities;
-use scan800::refused;
 ghost use mathlib.Core.Bool.{true, false};
 ghost use mathlib.Core.List.{_++_};
 ghost use mathlib.Core.Path.{_≡_};
@@ -25,7 +22,7 @@ ghost use Rattle.terms.specs.Reading.{at800};
 ghost use Rattle.terms.specs.Terms.{Terms};
 
 // Stores the data of the record that differs from the reading in a track.
-fn store(characters: &[u16], backward: bool, track: usize, parities: &[u16], output: &mut [u8])
+pub fn store(characters: &[u16], backward: bool, track: usize, parities: &[u16], output: &mut [u8])
     requires { ⌜ Passes backward (now characters) × (track < 10) × (length (now characters) - 2 ≤ length (now output)) × (now parities ≡ tabulate 512 parity) ⌝ }
     ensures { λ _. ⌜ now (output .exit) ≡ storedData (length (now (characters .entry)) - 2) (picture backward (now (characters .entry))) track ++ drop (length (now (characters .entry)) - 2) (now (output .entry)) ⌝ }
 {
@@ -45,19 +42,9 @@ pub fn read_record(characters: &[u16], backward: bool, output: &mut [u8]) -> Rea
     ensures output { λ r. ⌜ now (output .exit) ≡ outputAfter (toldRead r) (readData backward (now (characters .entry))) (now (output .entry)) ⌝ }
     ensures terms { λ r. ⌜ Terms (Call.read (at800 backward (now (characters .entry)))) (toldRead r) (now (output .entry)) (now (output .exit)) ⌝ }
 {
-    let count = characters.len();
-    if !length_suits(count) {
-        return refused(Reason::Length, 0);
-    }
-    if output.len() < count - Code800::CHECKS {
-        return refused(Reason::Space, 0);
-    }
-    let stray = first_stray(characters, backward);
-    if stray < count {
-        return refused(Reason::StrayBits, stray);
-    }
     let table = parities();
-    match judge_record(characters, backward, &table) {
+    let enough = data_length(characters.len()) <= output.len();
+    match judge_record(characters, backward, enough, &table) {
         Read::Delivered(figures) => {
             store(characters, backward, figures.track, &table, output);
             Read::Delivered(figures)

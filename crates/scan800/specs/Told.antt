@@ -7,13 +7,17 @@ use Rattle.register.specs.Shift.{shifts}
 use Rattle.answer.specs.Answer.{Answer, delivered, toldRefusal}
 use Rattle.cyclic.specs.Constants.{feedback, ahead}
 use Rattle.record800.specs.Read.{checkRead, errorPattern, longitudinalRead, wrongCount}
+use Rattle.scan800.specs.declared.Figures.{Figures}
 use Rattle.scan800.specs.declared.Read.{Read}
 use Rattle.scan800.specs.declared.Read.the-variants.{Delivered, Refused}
 use Rattle.scan800.specs.declared.gather.Gathered.{Gathered}
 
--- a delivery tells n, the corrected track, and how many characters differ
+-- the figures of a delivery: n, the corrected track, and how many characters differ
+abbrev pub figuresTold : Figures → List ℕ
+figuresTold figures = figures .length ∷ figures .track ∷ figures .changes ∷ []
+
 abbrev pub toldRead : Read → Answer
-toldRead (Delivered figures) = delivered (figures .length ∷ figures .track ∷ figures .changes ∷ [])
+toldRead (Delivered figures) = delivered (figuresTold figures)
 toldRead (Refused r) = toldRefusal r
 
 -- the registers and sums of a reading: the error-pattern register holds X^8 E

@@ -17,7 +17,7 @@ pub fn forward_character(characters: &[u16], backward: bool, k: usize) -> u16
 
 // The first character above 511 of the forward picture, or the number of characters. Where none is, as a
 // rule, that is seen from all characters at once.
-pub fn first_stray(characters: &[u16], backward: bool) -> usize
+pub(crate) fn first_stray(characters: &[u16], backward: bool) -> usize
     ensures { λ r. ⌜ r ≡ firstStray backward (now (characters .entry)) ⌝ }
 {
     if union(characters) <= Code800::MOST_CHARACTER {
