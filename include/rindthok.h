@@ -135,6 +135,16 @@ uint16_t rindthok_write800(const uint8_t *bytes, size_t byte_count, uint16_t *ch
 uint16_t rindthok_read800_forward(const uint16_t *characters, size_t character_count, uint8_t *output, size_t output_space, size_t *size, size_t *track, size_t *changes, size_t *place);
 uint16_t rindthok_read800_backward(const uint16_t *characters, size_t character_count, uint8_t *output, size_t output_space, size_t *size, size_t *track, size_t *changes, size_t *place);
 
+/* Copies an 800 record onto a 6250 one: the record is read as by the calls above, forward or backward, and its data are
+ * written as by rindthok_write6250, always forward, at the front of `words`. `size`, `track` and `changes` are the figures
+ * of the reading, and `groups` is the number of groups that are written: one for each seven bytes of data, and one more.
+ * What is written, read by rindthok_read6250_forward with no pointer and space enough, is delivered with the data of the
+ * one 800 record that fits and with no change. Refusals as the 800 reader's, with the same places, but for 2: if the space
+ * is under nine words a group, for as many groups as two bytes less than there are characters make. All else is then as it
+ * was. */
+uint16_t rindthok_copy800_forward(const uint16_t *characters, size_t character_count, uint16_t *words, size_t word_space, size_t *size, size_t *track, size_t *changes, size_t *groups, size_t *place);
+uint16_t rindthok_copy800_backward(const uint16_t *characters, size_t character_count, uint16_t *words, size_t word_space, size_t *size, size_t *track, size_t *changes, size_t *groups, size_t *place);
+
 /* Nine words of ten bits from code order (algebraic track a at index a) to head order (physical track
  * p, 1 to 9, at index p - 1), by the standard card, 1 4 7 8 3 6 0 2 5, which is the order of document 000, note 11; and
  * back. The target has space for nine or more. Refusals: 1 if there are not nine words, 2 if the space is short, 3 if a

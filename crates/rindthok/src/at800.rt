@@ -69,7 +69,7 @@ fn read_record(
 }
 
 // The answer for a reading as numbers.
-fn read_status(
+pub(crate) fn read_status(
     answer: Read,
     size: &mut usize,
     track: &mut usize,

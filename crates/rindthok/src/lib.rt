@@ -4,6 +4,7 @@
 mod at6250;
 mod at800;
 mod card;
+mod copy;
 mod log;
 mod order;
 

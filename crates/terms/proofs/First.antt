@@ -13,6 +13,9 @@ use Rattle.answer.specs.Answer.{Answer, delivered, refusedFor, outputAfter}
 use Rattle.slices.specs.Above.{firstAbove}
 use Rattle.answer.specs.declared.Reason.the-variants.{Length, Space, StrayBits, Padding, NoRecord, SeveralRecords, LogLength, LogContent, CardContent, CardLength}
 use Rattle.answer.proofs.Listed.{Listed, listed-delivery, listed-at, listed-refusal, listed-choice}
+use Rattle.answer.proofs.Retold.{listed-retold}
+use Rattle.copy800.proofs.Copy.{length-copied, copy-passed}
+use Rattle.copy800.specs.Copy.{copySpace, copyAnswer}
 use Rattle.record6250.proofs.Answer as sixAnswer
 use Rattle.record6250.proofs.Record as sixRecord
 use Rattle.record6250.specs.Group.{reasonOf}
@@ -30,13 +33,13 @@ use Rattle.sense_log.proofs.Back.{length-mapsOf}
 use Rattle.sense_log.proofs.Written.{log-passed, reading-log-within}
 use Rattle.sense_log.specs.Back.{lengthSuits, contentSuits, readLogAnswer}
 use Rattle.sense_log.specs.Log.{logSpace}
-use Rattle.sense_log.specs.Written.{logged, logAnswer}
+use Rattle.sense_log.specs.Written.{logAnswer}
 use Rattle.track_order.proofs.Order.{length-arranged}
 use Rattle.track_order.proofs.Moved.{words-passed}
 use Rattle.track_order.specs.Card.{firstWrong}
 use Rattle.track_order.specs.Moved.{ifNineWords, ifNoStray, ifNineNumbers, ifNoneWrong, mapAnswer, cardWordsAnswer, cardMapAnswer, inverseAnswer}
 use Rattle.track_order.specs.Order.{way}
-use Rattle.terms.specs.Call.{Call, write, read, log, readLog, moveWords, moveMap, invertCard, answerTo, resultOf, cardPlaces, places}
+use Rattle.terms.specs.Call.{Call, write, read, log, readLog, moveWords, moveMap, invertCard, copy, answerTo, resultOf, cardPlaces, places}
 use Rattle.terms.specs.Reading.{bpi6250, bpi800, Reading, at6250, at800, Enough, Passes, Fits, writtenRecord, readAnswer, readData}
 use Rattle.terms.specs.Terms.{FirstTerm}
 use Rattle.terms.proofs.Third.{one-delivered, delivered-passes, delivered-one}
@@ -80,28 +83,33 @@ listed-800 bound n characters =
     (λ t. listed-one-of bound n characters _)
 
 -- whatever space is asked for
-listed-if : (backward : Bool) (words maps : List ℕ) (enough : Bool) → Listed (λ n. length maps) (six.answerIf backward words maps enough)
+listed-if-6250 : (backward : Bool) (words maps : List ℕ) (enough : Bool) → Listed (λ n. length maps) (six.answerIf backward words maps enough)
 unfolding six.answerIf
-listed-if backward words maps enough =
+listed-if-6250 backward words maps enough =
     first-rows (λ n. length maps) (six.lengthsSuit (length words) (length maps)) enough _
     (λ s. third-row (λ n. length maps) (six.firstStray backward words maps) (length maps) (omega arith) _ (listed-6250 backward words maps))
 
-listed-read : (r : Reading) (space : ℕ) → Listed (places (read r)) (readAnswer r space)
-unfolding readAnswer places six.readAnswer eight.readAnswer eight.answerIf
-listed-read (at6250 backward words maps) space = listed-if backward words maps (leb (7 * length maps - 1) space)
-listed-read (at800 backward characters) space =
-    first-rows (λ n. length characters) (eight.lengthSuits (length characters)) (leb (length characters - 2) space) _
+listed-if-800 : (backward : Bool) (characters : List ℕ) (enough : Bool) → Listed (λ n. length characters) (eight.answerIf backward characters enough)
+unfolding eight.answerIf
+listed-if-800 backward characters enough =
+    first-rows (λ n. length characters) (eight.lengthSuits (length characters)) enough _
     (λ s. third-row (λ n. length characters) (eight.firstStray backward characters) (length characters) (omega arith) _
     (listed-800 (λ n. length characters) (length characters - 2) (eight.picture backward characters)))
 
--- a log keeps the refusal of its reading, and reading one back has three of its own
-listed-logged : (bound : ℕ → ℕ) (size : ℕ) (answer : Answer) → Listed bound answer → Listed bound (logged size answer)
-listed-logged bound size (Answer.delivered figures) listed = listed-delivery bound _
-listed-logged bound size (Answer.refused number place) listed = listed
+listed-read : (r : Reading) (space : ℕ) → Listed (places (read r)) (readAnswer r space)
+unfolding readAnswer places six.readAnswer eight.readAnswer
+listed-read (at6250 backward words maps) space = listed-if-6250 backward words maps (leb (7 * length maps - 1) space)
+listed-read (at800 backward characters) space = listed-if-800 backward characters (leb (length characters - 2) space)
 
+-- a log keeps the refusal of its reading, and so does a copy; reading a log back has three refusals of its own
 listed-log : (backward : Bool) (words maps : List ℕ) (space : ℕ) → Listed (λ n. length maps) (logAnswer backward words maps space)
 unfolding logAnswer
-listed-log backward words maps space = listed-logged (λ n. length maps) _ _ (listed-if backward words maps (leb (logSpace (length maps)) space))
+listed-log backward words maps space = listed-retold (λ n. length maps) _ _ (listed-if-6250 backward words maps (leb (logSpace (length maps)) space))
+
+listed-copy : (backward : Bool) (characters : List ℕ) (space : ℕ) → Listed (λ n. length characters) (copyAnswer backward characters space)
+unfolding copyAnswer
+listed-copy backward characters space =
+    listed-retold (λ n. length characters) _ _ (listed-if-800 backward characters (leb (copySpace (length characters)) space))
 
 listed-back : (groups : ℕ) (bytes : List ℕ) (space : ℕ) → Listed (λ n. 0) (readLogAnswer groups bytes space)
 unfolding readLogAnswer
@@ -156,6 +164,7 @@ listed-answer (readLog groups bytes) space = listed-back groups bytes space
 listed-answer (moveWords toward card source) space = listed-words card source space
 listed-answer (moveMap toward card m) space = listed-map card _ m
 listed-answer (invertCard card) space = listed-inverse card
+listed-answer (copy backward characters) space = listed-copy backward characters space
 
 -- ---- the space of a delivery
 
@@ -186,6 +195,8 @@ result-within (moveWords toward card source) space figures e =
     omega (arith, length-arranged (way toward card) source, words-passed source space card figures e .2)
 result-within (moveMap toward card m) space figures e = omega arith
 result-within (invertCard card) space figures e = omega arith
+result-within (copy backward characters) space figures e =
+    omega (arith, length-copied backward characters, copy-passed backward characters space figures e .0)
 
 -- ---- the first term, of any answer and output that are the call's
 

@@ -1,4 +1,4 @@
--- Every starred reading holds, and so do the logs beside them: antt computes both sides.
+-- Every starred reading holds, and so do the logs and copies beside them: antt computes both sides.
 -- Assumes nothing.
 use mathlib.Core.Path.{_≡_, refl}
 use mathlib.Core.List.{map}
@@ -28,14 +28,15 @@ use Rattle.record6250.specs.Record.{padding, body, groupsFor, groupBytes, group
 use Rattle.record6250.specs.Tape.{numbersAt, strayNumbers, wordsFrom, numbersFrom, turnedGroup}
 use Rattle.record6250.specs.Track.{recorded, wordOn, valueOn, wordsOf}
 use Rattle.record6250.specs.Written.{writeAnswer}
+use Rattle.copy800.specs.Copy.{copiedRecord, copyAnswer}
 use Rattle.sense_log.specs.Back.{groupBit, standingBits, suitingLength, lengthSuits, spareClear, storedMap, mapsSuit, contentSuits, mapBack, mapsOf, readLogAnswer}
 use Rattle.sense_log.specs.Log.{standing, bitMapByte, bitMap, mapBytes, logOf}
 use Rattle.sense_log.specs.Written.{readingLog, logAnswer}
 use Rattle.terms.specs.Call.{answerTo, resultOf}
 use Rattle.terms.specs.Reading as Reading
-use Rattle.terms.specs.Starred.{lent, answered, leaves, Row, row, made, written, group6250, characters800, readings, rowOf, starred, logRows, logs, computed}
+use Rattle.terms.specs.Starred.{lent, answered, leaves, Row, row, made, written, group6250, characters800, readings, rowOf, starred, logRows, logs, copyRows, copies, computed}
 
 pub starred-hold : (map (λ (r : Row). answered (r .asked)) computed ≡ map (λ (r : Row). r .answer) computed)
     × (map (λ (r : Row). leaves (r .asked)) computed ≡ map (λ (r : Row). r .output) computed)
-unfolding computed logs logRows logAnswer readingLog logOf bitMap bitMapByte mapBytes standing readLogAnswer lengthSuits suitingLength contentSuits spareClear mapsSuit storedMap mapsOf mapBack standingBits groupBit changedMaps starred written row made readings group6250 characters800 rowOf lent answered leaves answerTo resultOf Reading.turned Reading.writtenRecord Reading.readAnswer Reading.readData turnedNumbers turnedGroup pictureMaps eightWritten.writeAnswer eight.writtenRecord eight.withCheck eight.longitudinal eight.checkCharacter held eight.characterOf eightRead.readAnswer eightRead.answerIf eightRead.readData eightRead.firstStray eightRead.lengthSuits eightRead.judgedData eightRead.judgedAnswer eightRead.oneOf eightRead.holds eightRead.candidate eightRead.wrongCount eightRead.wrongParity eightRead.longitudinalRead eightRead.errorPattern eightRead.checkRead eightRead.wrong eightRead.expectedParity eightRead.picture firstAbove parity parityDigits outputAfter writeAnswer writtenRecord firstGroups groupWords groupBytes groupsFor body padding readAnswer answerIf judgedAnswer changes readData readBody firstUnfit firstStray changedTracks judgement readMap readGroup unpadded paddingSuits lastByte lengthsSuit mapRead groupRead groupLent readNumbers wordsFrom numbersFrom numbersAt rightWords wordsOf wordOn valueOn recorded rightBytes reasonOf rightValues isCorrected judgedGroup relied reliedOn onePointer pointed illegalMap strayAt strayNumbers changedMap judged without errorsOf twoErrors oneError firstAccounting errorAt secondError erasure weighed checkSyndrome paritySyndrome pointedTracks group track column character check information informationOf forwardWord reversedWord mirrored illegality valueOf legalWord legal decoded xorSum shift shifts bit ofBits tabulate tabulateFrom blocks firstWhere below firstBelow keep turnedPlace total ones onesIn
+unfolding computed copies copyRows copyAnswer copiedRecord logs logRows logAnswer readingLog logOf bitMap bitMapByte mapBytes standing readLogAnswer lengthSuits suitingLength contentSuits spareClear mapsSuit storedMap mapsOf mapBack standingBits groupBit changedMaps starred written row made readings group6250 characters800 rowOf lent answered leaves answerTo resultOf Reading.turned Reading.writtenRecord Reading.readAnswer Reading.readData turnedNumbers turnedGroup pictureMaps eightWritten.writeAnswer eight.writtenRecord eight.withCheck eight.longitudinal eight.checkCharacter held eight.characterOf eightRead.readAnswer eightRead.answerIf eightRead.readData eightRead.firstStray eightRead.lengthSuits eightRead.judgedData eightRead.judgedAnswer eightRead.oneOf eightRead.holds eightRead.candidate eightRead.wrongCount eightRead.wrongParity eightRead.longitudinalRead eightRead.errorPattern eightRead.checkRead eightRead.wrong eightRead.expectedParity eightRead.picture firstAbove parity parityDigits outputAfter writeAnswer writtenRecord firstGroups groupWords groupBytes groupsFor body padding readAnswer answerIf judgedAnswer changes readData readBody firstUnfit firstStray changedTracks judgement readMap readGroup unpadded paddingSuits lastByte lengthsSuit mapRead groupRead groupLent readNumbers wordsFrom numbersFrom numbersAt rightWords wordsOf wordOn valueOn recorded rightBytes reasonOf rightValues isCorrected judgedGroup relied reliedOn onePointer pointed illegalMap strayAt strayNumbers changedMap judged without errorsOf twoErrors oneError firstAccounting errorAt secondError erasure weighed checkSyndrome paritySyndrome pointedTracks group track column character check information informationOf forwardWord reversedWord mirrored illegality valueOf legalWord legal decoded xorSum shift shifts bit ofBits tabulate tabulateFrom blocks firstWhere below firstBelow keep turnedPlace total ones onesIn
 starred-hold = (refl, refl)

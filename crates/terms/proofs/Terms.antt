@@ -5,10 +5,11 @@ use mathlib.Core.Path.{_≡_, refl, sym, ap, _∙_}
 use Prim.Native.Nat.{ℕ}
 use lib.ListN.{length}
 use Rattle.answer.specs.Answer.{Answer, refused, outputAfter}
-use Rattle.terms.specs.Call.{Call, write, read, log, readLog, moveWords, moveMap, invertCard, answerTo, resultOf}
+use Rattle.terms.specs.Call.{Call, write, read, log, readLog, moveWords, moveMap, invertCard, copy, answerTo, resultOf}
 use Rattle.terms.specs.Terms.{SecondTerm, ThirdTerm, Terms}
 use Rattle.terms.proofs.First.{ends}
 use Rattle.terms.proofs.Second.{writes, reads}
+use Rattle.terms.proofs.Copied.{copies, copy-decides}
 use Rattle.terms.proofs.Logged.{logs, logs-again, log-decides}
 use Rattle.terms.proofs.Moved.{moves-words, moves-map, inverts}
 use Rattle.terms.proofs.Third.{read-decides}
@@ -24,6 +25,7 @@ module _ (answer : Answer) (before after : List ℕ) where
   second-term (moveWords toward card source) answers stores = moves-words toward card source answer before after answers stores
   second-term (moveMap toward card m) answers stores = moves-map toward card m answer answers
   second-term (invertCard card) answers stores = inverts card answer answers
+  second-term (copy backward characters) answers stores = copies backward characters answer before after answers stores
 
   third-term : (call : Call) → answer ≡ answerTo call (length before) → after ≡ outputAfter answer (resultOf call) before
       → ThirdTerm call answer before after
@@ -35,6 +37,7 @@ module _ (answer : Answer) (before after : List ℕ) where
   third-term (moveWords toward card source) answers stores = tt
   third-term (moveMap toward card m) answers stores = tt
   third-term (invertCard card) answers stores = tt
+  third-term (copy backward characters) answers stores = copy-decides backward characters answer before after answers stores
 
   pub terms-hold : (call : Call) → answer ≡ answerTo call (length before) → after ≡ outputAfter answer (resultOf call) before
       → Terms call answer before after

@@ -7,6 +7,7 @@ use lib.Dec.{eqb}
 use lib.ListN.{length}
 use Rattle.answer.specs.Answer.{Answer, numberOf}
 use Rattle.answer.specs.declared.Reason.the-variants.{CardContent}
+use Rattle.copy800.specs.Copy.{copiedRecord, copyAnswer}
 use Rattle.rectangular.specs.Constants.{tracks}
 use Rattle.record6250.specs.Written as six
 use Rattle.record800.specs.Written as eight
@@ -18,7 +19,8 @@ use Rattle.track_order.specs.Order.{standardCard, movedWords, movedMap}
 use Rattle.terms.specs.Reading.{Density, bpi6250, bpi800, Reading, at6250, at800, writtenRecord, readAnswer, readData}
 
 -- data are written, a reading is read; the log of a 6250 reading, forward or backward, is written, and one is read back with its group count
--- (document 02, request 2.1); nine words or a pointer map are moved toward an order by a card, and a card is inverted (request 2.4)
+-- (document 02, request 2.1); nine words or a pointer map are moved toward an order by a card, and a card is inverted (request 2.4); an 800
+-- reading, forward or backward, is copied as a 6250 record (request 2.6)
 pub data Call : Type 0 where
   write : Density → List ℕ → Call
   read : Reading → Call
@@ -27,6 +29,7 @@ pub data Call : Type 0 where
   moveWords : Toward → List ℕ → List ℕ → Call
   moveMap : Toward → List ℕ → ℕ → Call
   invertCard : List ℕ → Call
+  copy : Bool → List ℕ → Call
 
 -- the calls without a card move by the standard one
 abbrev pub standardWords : Toward → List ℕ → Call
@@ -45,6 +48,7 @@ answerTo (readLog groups bytes) space = readLogAnswer groups bytes space
 answerTo (moveWords toward card source) space = cardWordsAnswer card source space
 answerTo (moveMap toward card m) space = cardMapAnswer card (movedMap toward card) m
 answerTo (invertCard card) space = inverseAnswer card
+answerTo (copy backward characters) space = copyAnswer backward characters space
 
 -- the result that a delivery stores; a moved map and an inverse card are told and not stored
 unfoldable pub resultOf : Call → List ℕ
@@ -55,6 +59,7 @@ resultOf (readLog groups bytes) = mapsOf groups bytes
 resultOf (moveWords toward card source) = movedWords toward card source
 resultOf (moveMap toward card m) = []
 resultOf (invertCard card) = []
+resultOf (copy backward characters) = copiedRecord backward characters
 
 -- places below this bound: a refusal by 11 tells a physical track, 1 to 9, and one by another number something else
 unfoldable pub cardPlaces : ℕ → ℕ → ℕ
@@ -70,3 +75,4 @@ places (readLog groups bytes) number = 0
 places (moveWords toward card source) number = cardPlaces (length source) number
 places (moveMap toward card m) number = cardPlaces 0 number
 places (invertCard card) number = cardPlaces 0 number
+places (copy backward characters) number = length characters

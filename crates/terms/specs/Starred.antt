@@ -1,4 +1,4 @@
--- The bench readings that document 01 marks with a star, as one table, and logs beside it; word 8 is document 02's ("2.2"), which adds the last
+-- The bench readings that document 01 marks with a star, as one table, and logs and copies beside it; word 8 is document 02's ("2.2"), which adds the last
 -- 6250 reading, and so is the answer where one track is wrong and another pointed ("2.3"). Each call is lent an output of ten numbers, so that
 -- a row also says what is kept: behind a result, and after a refusal all of it.
 -- Assumes nothing.
@@ -9,10 +9,11 @@ use lib.ListN.{length, drop}
 use Rattle.answer.specs.Answer.{Answer, delivered, refused, outputAfter}
 use Rattle.record6250.specs.Picture.{turnedNumbers}
 use Rattle.record6250.specs.Record.{body}
+use Rattle.record800.specs.Read.{picture}
 use Rattle.record800.specs.Record.{characterOf, checkCharacter}
 use Rattle.cyclic.specs.Constants.{offset}
 use Rattle.register.specs.Xor.{_⊕_}
-use Rattle.terms.specs.Call.{Call, write, read, log, readLog, answerTo, resultOf}
+use Rattle.terms.specs.Call.{Call, write, read, log, readLog, copy, answerTo, resultOf}
 use Rattle.terms.specs.Reading.{bpi6250, bpi800, Reading, at6250, at800, turned}
 
 -- what is asked of the definitions: the body that is made of data, the check character before G2 is added, or a call
@@ -121,6 +122,25 @@ logs =
     ∷ row (readLog 1 (1 ∷ 0 ∷ 2 ∷ [])) (refused 10 0) []
     ∷ []
 
+-- The 800 readings among these copied as 6250 records, forward and as they pass the head the other way (document 02, request 2.6), with one byte
+-- 0, a stray character, and a stray character where the record would not fit into the ten words that are lent. Their answers follow from the
+-- request's words; none has a star.
+unfoldable pub copyRows : List ℕ → Answer → List ℕ → List Row
+copyRows characters answer front =
+    row (copy false characters) answer front ∷ row (copy true (picture true characters)) answer front ∷ []
+
+unfoldable pub copies : List Row
+copies =
+    copyRows (131 ∷ 468 ∷ 148 ∷ 248 ∷ 202 ∷ 510 ∷ 47 ∷ []) (delivered (5 ∷ 5 ∷ 1 ∷ 1 ∷ []))
+    (851 ∷ 858 ∷ 731 ∷ 873 ∷ 763 ∷ 890 ∷ 698 ∷ 506 ∷ 949 ∷ [])
+    ++ copyRows (131 ∷ 468 ∷ 148 ∷ 248 ∷ 234 ∷ 510 ∷ 46 ∷ []) (delivered (5 ∷ 0 ∷ 1 ∷ 1 ∷ []))
+    (851 ∷ 858 ∷ 731 ∷ 873 ∷ 763 ∷ 890 ∷ 698 ∷ 506 ∷ 949 ∷ [])
+    ++ copyRows (256 ∷ 430 ∷ 174 ∷ []) (delivered (1 ∷ 9 ∷ 0 ∷ 1 ∷ [])) (818 ∷ 827 ∷ 818 ∷ 827 ∷ 825 ∷ 825 ∷ 825 ∷ 825 ∷ 495 ∷ [])
+    ++ copyRows (128 ∷ 468 ∷ 148 ∷ 248 ∷ 234 ∷ 510 ∷ 47 ∷ []) (refused 7 0) []
+    ++ copyRows (256 ∷ 512 ∷ 174 ∷ []) (refused 3 1) []
+    ++ copyRows (600 ∷ 412 ∷ 328 ∷ 458 ∷ 214 ∷ 52 ∷ 296 ∷ 456 ∷ 13 ∷ []) (refused 2 0) []
+    ++ copyRows (1 ∷ 2 ∷ []) (refused 1 0) []
+
 -- all rows that are computed
 unfoldable pub computed : List Row
-computed = starred ++ logs
+computed = starred ++ logs ++ copies

@@ -6,15 +6,19 @@ use mathlib.Core.List.{List, [], _∷_, _++_, List·Memᴰ}
 use mathlib.Core.Logic.{_⊎_}
 use mathlib.Core.Path.{_≡_}
 use Prim.{Unit}
-use Prim.Native.Nat.{ℕ, _*_, _<_, _≤_}
+use Prim.Native.Nat.{ℕ, _-_, _*_, _<_, _≤_}
 use lib.Dec.{eqb}
 use lib.ListN.{length, getD, take, drop}
 use Rattle.answer.specs.Answer.{Answer, delivered, refused, refusals, outputAfter}
+use Rattle.copy800.specs.Copy.{copySpace, copiedRecord, copyAnswer}
 use Rattle.rectangular.specs.Constants.{tracks, numbersPerGroup, mostWord, mostMap}
 use Rattle.record6250.specs.Fits as six
 use Rattle.record6250.specs.Fits.{mapsChanged}
 use Rattle.record6250.specs.Picture.{groupRead, pictureMaps, turnedNumbers}
 use Rattle.record6250.specs.Read.{readGroup, changedMaps}
+use Rattle.record6250.specs.Record.{groupsFor}
+use Rattle.record800.specs.Fits as eight
+use Rattle.record800.specs.Read.{picture}
 use Rattle.register.specs.Bit.{bit}
 use Rattle.sense_log.specs.Back.{readLogAnswer, mapsOf}
 use Rattle.sense_log.specs.Log.{logSpace, logOf}
@@ -23,8 +27,8 @@ use Rattle.track_order.specs.declared.Toward.{Toward}
 use Rattle.track_order.specs.Card.{Good, InverseCard}
 use Rattle.track_order.specs.Moved.{cardWordsAnswer, cardMapAnswer, inverseAnswer}
 use Rattle.track_order.specs.Order.{back, movedWords, movedMap}
-use Rattle.terms.specs.Call.{Call, write, read, log, readLog, moveWords, moveMap, invertCard, resultOf, places}
-use Rattle.terms.specs.Reading.{Density, bpi6250, bpi800, Reading, at6250, density, isBackward, received, IsData, writtenRecord, turned, undamaged, Enough, Passes, Fits, OneFits, told, unchanged, lengthTold, changesTold, readAnswer, readData}
+use Rattle.terms.specs.Call.{Call, write, read, log, readLog, moveWords, moveMap, invertCard, copy, resultOf, places}
+use Rattle.terms.specs.Reading.{Density, bpi6250, bpi800, Reading, at6250, at800, density, isBackward, received, IsData, writtenRecord, turned, undamaged, Enough, Passes, Fits, OneFits, told, unchanged, lengthTold, changesTold, readAnswer, readData}
 
 -- ---- the first term
 
@@ -44,16 +48,19 @@ unfoldable pub recordStored : Density → List ℕ → List ℕ → List ℕ
 recordStored bpi6250 figures after = take (numbersPerGroup * getD figures 0 0) after
 recordStored bpi800 figures after = take (getD figures 0 0) after
 
--- "What is written is what [the papers] prescribe. A written record, read undamaged, with space enough and no track pointed, gives its data
--- with no change counted." Of a writer: data within the limits are delivered, if there is space for their record; what stands at the front is
+-- "A written record, read undamaged, with space enough and no track pointed, gives its data with no change counted": so do these words or
+-- characters, forward and backward.
+abbrev pub ReadsBack : Density → List ℕ → List ℕ → Type 0
+ReadsBack d stored bytes =
+    (backward : Bool) (space : ℕ) → Enough (undamaged d backward stored) space
+    → (readAnswer (undamaged d backward stored) space ≡ delivered (unchanged d (length bytes))) × (readData (undamaged d backward stored) ≡ bytes)
+
+-- "What is written is what [the papers] prescribe." Of a writer: data within the limits are delivered, if there is space for their record; what stands at the front is
 -- that record; and a reader, forward or backward, delivers the data from there.
 pub record Writes (d : Density) (bytes : List ℕ) (answer : Answer) (before after : List ℕ) : Type 0 where
   pub is-delivered : IsData d bytes → length (writtenRecord d bytes) ≤ length before → (figures : List ℕ) × (answer ≡ delivered figures)
   pub is-record : (figures : List ℕ) → answer ≡ delivered figures → recordStored d figures after ≡ writtenRecord d bytes
-  pub reads-back : IsData d bytes → (figures : List ℕ) → answer ≡ delivered figures → (backward : Bool) (space : ℕ)
-      → Enough (undamaged d backward (recordStored d figures after)) space
-      → (readAnswer (undamaged d backward (recordStored d figures after)) space ≡ delivered (unchanged d (length bytes)))
-      × (readData (undamaged d backward (recordStored d figures after)) ≡ bytes)
+  pub reads-back : IsData d bytes → (figures : List ℕ) → answer ≡ delivered figures → ReadsBack d (recordStored d figures after) bytes
 
 -- Of a reader, the same; and "A record read forward with no change, when its data are written, gives the words or characters that were read.
 -- Reading backward answers as reading forward does."
@@ -104,6 +111,28 @@ pub record Inverts (card : List ℕ) (answer : Answer) : Type 0 where
   pub only-inverse : (figures other : List ℕ) → answer ≡ delivered figures → InverseCard card other → other ≡ figures
   pub inverted-back : (figures : List ℕ) → answer ≡ delivered figures → inverseAnswer figures ≡ delivered card
 
+-- the groups told of a copy, behind the figures of the reading, and the front of its output: so many groups of words
+unfoldable pub groupsTold : List ℕ → ℕ
+groupsTold figures = getD figures (length figures - 1) 0
+
+unfoldable pub copyStored : List ℕ → List ℕ → List ℕ
+copyStored figures after = take (numbersPerGroup * groupsTold figures) after
+
+-- Of an 800 record that is copied as a 6250 one (document 02, request 2.6: "What it wrote, read at 6250 with no pointer, gives the data of the one
+-- 800 record that fitted"): where the copy is delivered, exactly one 800 record fits the reading, what stands at the front is the 6250 record of
+-- its data, and a 6250 reader delivers them from there with no change. An undamaged record is copied with no change told; and a backward reading
+-- is copied as the same turned forward.
+pub record Copies (backward : Bool) (characters : List ℕ) (answer : Answer) (before after : List ℕ) : Type 0 where
+  pub one-copied : (figures : List ℕ) → answer ≡ delivered figures
+      → (bytes : List ℕ) × OneFits (at800 backward characters) bytes
+      × (copyStored figures after ≡ writtenRecord bpi6250 bytes) × ReadsBack bpi6250 (copyStored figures after) bytes
+  pub undamaged-copied : (bytes : List ℕ) → IsData bpi800 bytes → at800 backward characters ≡ undamaged bpi800 backward (writtenRecord bpi800 bytes)
+      → copySpace (length characters) ≤ length before
+      → (answer ≡ delivered (unchanged bpi800 (length bytes) ++ (groupsFor (length bytes) ∷ [])))
+      × (after ≡ writtenRecord bpi6250 bytes ++ drop (length (writtenRecord bpi6250 bytes)) before)
+  pub as-turned : (answer ≡ copyAnswer (not backward) (picture true characters) (length before))
+      × (after ≡ outputAfter answer (copiedRecord (not backward) (picture true characters)) before)
+
 unfoldable pub SecondTerm : Call → Answer → List ℕ → List ℕ → Type 0
 SecondTerm (write d bytes) answer before after = Writes d bytes answer before after
 SecondTerm (read r) answer before after = Reads r answer before after
@@ -112,6 +141,7 @@ SecondTerm (readLog groups bytes) answer before after = LogsAgain groups bytes a
 SecondTerm (moveWords toward card source) answer before after = MovesWords toward card source answer before after
 SecondTerm (moveMap toward card m) answer before after = MovesMap toward card m answer
 SecondTerm (invertCard card) answer before after = Inverts card answer
+SecondTerm (copy backward characters) answer before after = Copies backward characters answer before after
 
 -- ---- the third term
 
@@ -142,6 +172,12 @@ pub record DecidesLog (backward : Bool) (words maps : List ℕ) (answer : Answer
       → bit k (getD (mapsOf (length maps) (take (lengthTold figures) after)) g 0)
       ≡ cond (eqb (getD (readGroup backward words maps g) k 0) (getD (groupRead false (length maps) (writtenRecord bpi6250 bytes) g) k 0)) 0 1
 
+-- Of a copy: the reading's figures and the number of groups are told, and the 6250 record of the data is stored.
+unfoldable pub DecidesCopy : Bool → List ℕ → Answer → List ℕ → List ℕ → Type 0
+DecidesCopy backward characters answer before after =
+    Decides (at800 backward characters) (λ bytes. told (at800 backward characters) bytes ++ (groupsFor (length bytes) ∷ []))
+    (λ bytes. writtenRecord bpi6250 bytes) answer before after
+
 -- "once lengths, space and stray bits have passed"
 unfoldable pub ThirdTerm : Call → Answer → List ℕ → List ℕ → Type 0
 ThirdTerm (write d bytes) answer before after = Unit
@@ -152,6 +188,8 @@ ThirdTerm (readLog groups bytes) answer before after = Unit
 ThirdTerm (moveWords toward card source) answer before after = Unit
 ThirdTerm (moveMap toward card m) answer before after = Unit
 ThirdTerm (invertCard card) answer before after = Unit
+ThirdTerm (copy backward characters) answer before after =
+    eight.Passes backward characters → copySpace (length characters) ≤ length before → DecidesCopy backward characters answer before after
 
 -- "Exactly one record" is said of data, since a written record has one list of data.
 unfoldable pub OneData : Density → Type 0
