@@ -30,6 +30,7 @@ typedef uint16_t read6250(const uint16_t *, size_t, const rindthok_algebraic_map
 typedef uint16_t log6250(const uint16_t *, size_t, const rindthok_algebraic_map *, size_t, uint8_t *, size_t, size_t *,
                          size_t *);
 typedef uint16_t read800(const uint16_t *, size_t, uint8_t *, size_t, size_t *, size_t *, size_t *, size_t *);
+typedef uint16_t copy800(const uint16_t *, size_t, uint16_t *, size_t, size_t *, size_t *, size_t *, size_t *, size_t *);
 typedef uint16_t move(const uint16_t *, size_t, uint16_t *, size_t, size_t *);
 typedef uint16_t card_move(const uint8_t *, size_t, const uint16_t *, size_t, uint16_t *, size_t, size_t *);
 
@@ -111,6 +112,29 @@ static void reads800(read800 *read)
     stored("800", changes, 7);
 }
 
+/* Copies the record of a byte 0, which is passed as it comes in the call's direction. */
+static void copies800(copy800 *copy, const uint16_t *record)
+{
+    uint16_t words[9] = {7, 7, 7, 7, 7, 7, 7, 7, 7};
+    size_t size = 7, track = 7, changes = 7, groups = 7;
+    int k;
+
+    due("copy, nothing", copy(NULL, 0, NULL, 0, &size, &track, &changes, &groups, &place), 1);
+    due("copy, no characters", copy(NULL, 0, words, 9, &size, &track, &changes, &groups, &place), 1);
+    due("copy, no words", copy(record, 3, NULL, 0, &size, &track, &changes, &groups, &place), 2);
+    stored("copy, refused", size, 7);
+    stored("copy, refused", track, 7);
+    stored("copy, refused", changes, 7);
+    stored("copy, refused", groups, 7);
+    for (k = 0; k < 9; k++)
+        stored("copy, refused", words[k], 7);
+    due("copy", copy(record, 3, words, 9, &size, &track, &changes, &groups, &place), 0);
+    stored("copy, size", size, 1);
+    stored("copy, track", track, 9);
+    stored("copy, changes", changes, 0);
+    stored("copy, groups", groups, 1);
+}
+
 static void moves(move *moved)
 {
     uint16_t words[9] = {0};
@@ -165,6 +189,7 @@ static void inverse_card(void)
 
 int main(void)
 {
+    const uint16_t record[3] = {256, 430, 174}, turned[3] = {174, 430, 256};
     uint16_t words[9] = {0};
 
     place = 7;
@@ -177,6 +202,8 @@ int main(void)
     write800();
     reads800(rindthok_read800_forward);
     reads800(rindthok_read800_backward);
+    copies800(rindthok_copy800_forward, record);
+    copies800(rindthok_copy800_backward, turned);
     moves(rindthok_words_to_physical);
     moves(rindthok_words_to_algebraic);
     card_moves(rindthok_card_words_to_physical);

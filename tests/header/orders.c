@@ -1,6 +1,7 @@
 /* From the drive to the data and to the log the right way: words and map are moved, the record is read, and what is read back
- * of its log is moved to the drive's order; then words and map are moved by a card. Each macro names what is handed over in
- * one place; with another there, of the wrong order, or words for a card, this must not compile. C and C++ alike. */
+ * of its log is moved to the drive's order; then words and map are moved by a card, and the record is copied from 800. Each
+ * macro names what is handed over in one place; with another there, of the wrong order, words for a card, or maps or bytes for
+ * a copy's characters and words, this must not compile. C and C++ alike. */
 #include "rindthok.h"
 
 #ifndef READ_WITH
@@ -57,6 +58,18 @@
 #ifndef INVERSE_TO
 #define INVERSE_TO inverse
 #endif
+#ifndef COPIED_FROM
+#define COPIED_FROM characters
+#endif
+#ifndef COPIED_TO
+#define COPIED_TO copy_forward
+#endif
+#ifndef COPIED_BACKWARD_FROM
+#define COPIED_BACKWARD_FROM last_first
+#endif
+#ifndef COPIED_BACKWARD_TO
+#define COPIED_BACKWARD_TO copy_backward
+#endif
 
 /* The types change no layout. */
 typedef char physical_is_a_number[sizeof(rindthok_physical_map) == sizeof(uint16_t) ? 1 : -1];
@@ -65,10 +78,11 @@ typedef char algebraic_is_a_number[sizeof(rindthok_algebraic_map) == sizeof(uint
 static const uint8_t data[1] = {0x01}, card[9] = {1, 4, 7, 8, 3, 6, 0, 2, 5};
 static const rindthok_physical_map drive_map = {(1 << 3) | (1 << 6)};
 static uint16_t code[9], head[9], words[9], turned[9], by_card[9], numbers[1];
+static uint16_t characters[3], last_first[3], copy_forward[9], copy_backward[9];
 static rindthok_physical_map drive_maps[1];
 static rindthok_algebraic_map maps[1], marks[1];
 static uint8_t bytes[6], log_forward[3], log_backward[3], inverse[9];
-static size_t groups, size, changes, length, place;
+static size_t groups, size, track, changes, length, place;
 
 /* Reads what the drive gives, two tracks of it damaged; 0, or the step that went wrong. */
 static int read_record(void)
@@ -121,13 +135,13 @@ static int write_log(void)
     return drive_maps[0].physical == drive_map.physical ? 0 : 12;
 }
 
-/* Whether the words that were moved by the card are these. */
-static int are_moved(const uint16_t *expected)
+/* Whether the nine words that came are these. */
+static int are_due(const uint16_t *came, const uint16_t *expected)
 {
     int k;
 
     for (k = 0; k < 9; k++)
-        if (by_card[k] != expected[k])
+        if (came[k] != expected[k])
             return 0;
     return 1;
 }
@@ -139,9 +153,9 @@ static int move_by_card(void)
 
     maps[0].algebraic = 0;
     drive_maps[0].physical = 0;
-    if (rindthok_card_words_to_algebraic(WORDS_TO_ALGEBRAIC_BY, 9, head, 9, by_card, 9, &place) != 0 || !are_moved(words))
+    if (rindthok_card_words_to_algebraic(WORDS_TO_ALGEBRAIC_BY, 9, head, 9, by_card, 9, &place) != 0 || !are_due(by_card, words))
         return 13;
-    if (rindthok_card_words_to_physical(WORDS_TO_PHYSICAL_BY, 9, words, 9, by_card, 9, &place) != 0 || !are_moved(head))
+    if (rindthok_card_words_to_physical(WORDS_TO_PHYSICAL_BY, 9, words, 9, by_card, 9, &place) != 0 || !are_due(by_card, head))
         return 14;
     if (rindthok_card_map_to_algebraic(MAP_TO_ALGEBRAIC_BY, 9, CARD_MOVED_TO_ALGEBRAIC, CARD_TO_ALGEBRAIC, &place) != 0)
         return 15;
@@ -157,6 +171,22 @@ static int move_by_card(void)
     return 0;
 }
 
+/* Copies the same data's record from 800, both ways, to the words that were written. */
+static int copy_record(void)
+{
+    int k;
+
+    if (rindthok_write800(data, 1, characters, 3, &length, &place) != 0)
+        return 20;
+    for (k = 0; k < 3; k++)
+        last_first[k] = characters[2 - k];
+    if (rindthok_copy800_forward(COPIED_FROM, 3, COPIED_TO, 9, &size, &track, &changes, &groups, &place) != 0)
+        return 21;
+    if (rindthok_copy800_backward(COPIED_BACKWARD_FROM, 3, COPIED_BACKWARD_TO, 9, &size, &track, &changes, &groups, &place) != 0)
+        return 22;
+    return are_due(copy_forward, code) && are_due(copy_backward, code) ? 0 : 23;
+}
+
 int main(void)
 {
     int step = read_record();
@@ -164,5 +194,7 @@ int main(void)
     (void)numbers;
     if (step == 0)
         step = write_log();
-    return step != 0 ? step : move_by_card();
+    if (step == 0)
+        step = move_by_card();
+    return step != 0 ? step : copy_record();
 }

@@ -68,6 +68,28 @@ extern "C" {
         changes: *mut usize,
         place: *mut usize,
     ) -> u16;
+    pub fn rindthok_copy800_forward(
+        characters: *const u16,
+        character_count: usize,
+        words: *mut u16,
+        word_space: usize,
+        size: *mut usize,
+        track: *mut usize,
+        changes: *mut usize,
+        groups: *mut usize,
+        place: *mut usize,
+    ) -> u16;
+    pub fn rindthok_copy800_backward(
+        characters: *const u16,
+        character_count: usize,
+        words: *mut u16,
+        word_space: usize,
+        size: *mut usize,
+        track: *mut usize,
+        changes: *mut usize,
+        groups: *mut usize,
+        place: *mut usize,
+    ) -> u16;
     pub fn rindthok_map_to_physical(map: u16, moved: *mut u16, place: *mut usize) -> u16;
     pub fn rindthok_map_to_algebraic(map: u16, moved: *mut u16, place: *mut usize) -> u16;
     pub fn rindthok_card_words_to_physical(

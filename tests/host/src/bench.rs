@@ -1,29 +1,36 @@
 //! The bench readings of document 01 that are not in the proved table, what its section on reading backward says of a
 //! stray word, what becomes of records with the parity that they had before request 2.2 of document 02, and of groups with one
-//! wrong track too many under its request 2.3. The answers stand here as the documents have them; the counts of groups that are taken
-//! for another are ours.
+//! wrong track too many under its request 2.3; and what the readings at 800 are copied to by its request 2.6. The answers stand here as
+//! the documents have them; the counts of groups that are taken for another are ours.
 
 use crate::damage6250::make_even;
 use crate::library::{self, Answer, Direction};
 use crate::reading6250::turned;
 use crate::record6250::{word, written};
 use crate::{reading800, record800};
-use crate::vectors::{LENT, LENT_BYTE};
+use crate::vectors::{From800, BEHIND, LENT, LENT_BYTE};
 use crate::Tried;
 
 /// The words of data 0x01.
 const ONE: [u16; 9] = [850, 827, 818, 827, 825, 825, 825, 827, 750];
 
-/// Whether groups without pointers are answered so in both directions, with these data in front of the output.
-fn reads(words: &[u16], want: Answer, data: &[u8]) -> bool {
+/// An output full of `lent` with a result at its front.
+fn fronted<T: Copy>(result: &[T], lent: T, length: usize) -> Vec<T> {
+    let mut output = result.to_vec();
+    output.resize(length, lent);
+    output
+}
+
+/// Whether groups without pointers are answered so in both directions, with these data in front of the output, which has the
+/// least space.
+pub fn reads(words: &[u16], want: Answer, data: &[u8]) -> bool {
     let maps = vec![0; words.len() / 9];
-    let space = 7 * maps.len();
-    let mut after = vec![LENT_BYTE; space];
-    after[..data.len()].copy_from_slice(data);
+    let space = (7 * maps.len()).saturating_sub(1);
+    let after = fronted(data, LENT_BYTE, space + BEHIND);
     let back = turned(words, &maps).0;
     let answers = |direction: Direction, words: &[u16]| {
-        let mut output = vec![LENT_BYTE; space];
-        library::read6250(direction, words, &maps, &mut output) == want && output == after
+        let mut output = vec![LENT_BYTE; space + BEHIND];
+        library::read6250(direction, words, &maps, &mut output[..space]) == want && output == after
     };
     answers(Direction::Forward, words) && answers(Direction::Backward, &back)
 }
@@ -97,16 +104,22 @@ fn two_wrong_one_pointed(data: [u8; 7], pointed: usize, other: usize) -> [usize;
     counts
 }
 
-/// Whether characters are answered so in both directions, with these data in front of the output.
-fn reads800(characters: &[u16], want: Answer, data: &[u8]) -> bool {
-    let space = characters.len();
-    let mut after = vec![LENT_BYTE; space];
-    after[..data.len()].copy_from_slice(data);
+/// Whether characters are answered so in both directions, with this result in front of the output, which has space for it and more.
+fn answers800<T: Copy + PartialEq>(call: From800<T>, lent: T, characters: &[u16], want: Answer, result: &[T]) -> bool {
+    let after = fronted(result, lent, 9 * characters.len());
     let answers = |direction: Direction, characters: &[u16]| {
-        let mut output = vec![LENT_BYTE; space];
-        library::read800(direction, characters, &mut output) == want && output == after
+        let mut output = vec![lent; after.len()];
+        call(direction, characters, &mut output) == want && output == after
     };
     answers(Direction::Forward, characters) && answers(Direction::Backward, &reading800::turned(characters))
+}
+
+fn reads800(characters: &[u16], want: Answer, data: &[u8]) -> bool {
+    answers800(library::read800, LENT_BYTE, characters, want, data)
+}
+
+fn copies800(characters: &[u16], want: Answer, words: &[u16]) -> bool {
+    answers800(library::copy800, LENT, characters, want, words)
 }
 
 fn writes_zero() -> bool {
@@ -130,14 +143,29 @@ fn with_longitudinal_wrong(mut characters: Vec<u16>) -> Vec<u16> {
     characters
 }
 
+const EIGHT_BYTES: [[u8; 8]; 3] = [[0; 8], [255; 8], [131, 212, 148, 248, 234, 1, 2, 3]];
+
 pub fn readings800() -> Tried {
     let mut tried = Tried::default();
     tried.expect("one byte 0 is 256 430 174", writes_zero());
-    for data in [[0; 8], [255; 8], [131, 212, 148, 248, 234, 1, 2, 3]] {
+    for data in EIGHT_BYTES {
         let characters = wrong_at_g2(&data);
         tried.expect("n = 8, wrong at G2: delivered", reads800(&characters, Answer::Delivered(vec![8, 0, 7]), &data));
         let characters = with_longitudinal_wrong(characters);
         tried.expect("the longitudinal one wrong too: refusal 8", reads800(&characters, Answer::Refused(8, 0), &[]));
+    }
+    tried
+}
+
+pub fn copies() -> Tried {
+    let mut tried = Tried::default();
+    let one = record800::written(&[1]);
+    tried.expect("one byte 1 becomes the words of 0x01", copies800(&one, Answer::Delivered(vec![1, 9, 0, 1]), &ONE));
+    for data in EIGHT_BYTES {
+        let characters = wrong_at_g2(&data);
+        tried.expect("n = 8, wrong at G2: copied", copies800(&characters, Answer::Delivered(vec![8, 0, 7, 2]), &written(&data)));
+        let characters = with_longitudinal_wrong(characters);
+        tried.expect("the longitudinal one wrong too: refusal 8", copies800(&characters, Answer::Refused(8, 0), &[]));
     }
     tried
 }

@@ -1,10 +1,11 @@
 //! Seeded records and readings at 800, damaged in the ways that document 01 speaks of and in combinations of them.
-//! The library and the implementation of these tests answer each, and their outputs are compared whole.
+//! The library and the implementation of these tests answer each, and their outputs are compared whole. A reading is read,
+//! or asked for in another way.
 
 use crate::library::{self, Answer, Direction};
-use crate::reading800::{self, turned};
+use crate::reading800::{self, in_direction};
 use crate::record800::{self, written, G2};
-use crate::vectors::{BEHIND, LENT, LENT_BYTE};
+use crate::vectors::{From800, BEHIND, LENT, LENT_BYTE};
 use crate::{Seeded, Tried};
 
 const CASES: usize = 250_000;
@@ -162,39 +163,73 @@ fn told(case: usize, characters: &[u16]) -> String {
     }
 }
 
-/// One reading answered by the library and by the reader of these tests; what the latter answered.
-fn compare(tried: &mut Tried, direction: Direction, reading: Vec<u16>, space: usize) -> Answer {
-    let characters = match direction {
-        Direction::Forward => reading,
-        Direction::Backward => turned(&reading),
-    };
-    let mut output = vec![LENT_BYTE; space + BEHIND];
-    let mut after = vec![LENT_BYTE; space + BEHIND];
-    let got = library::read800(direction, &characters, &mut output[..space]);
-    let want = reading800::read(direction, &characters, &mut after[..space]);
+/// A reading as it comes, and the space that is lent for what is made of it.
+pub struct Case<'a> {
+    pub direction: Direction,
+    pub characters: &'a [u16],
+    pub space: usize,
+}
+
+impl Case<'_> {
+    /// Finds fault with what came of this case.
+    pub fn wrong(&self, tried: &mut Tried, what: &str) {
+        tried.wrong.push(format!("{:?}, {}, space {}: {what}", self.direction, told(tried.cases, self.characters), self.space));
+    }
+}
+
+/// One reading answered by the library and by another that is to answer as it does, each with an output full of `lent`;
+/// what the latter answered.
+pub fn compare<T: Copy + PartialEq>(tried: &mut Tried, case: &Case, lent: T, library: From800<T>, other: From800<T>) -> Answer {
+    let mut output = vec![lent; case.space + BEHIND];
+    let mut after = vec![lent; case.space + BEHIND];
+    let got = library(case.direction, case.characters, &mut output[..case.space]);
+    let want = other(case.direction, case.characters, &mut after[..case.space]);
     if got != want || output != after {
         let differs = if output == after { "" } else { ", outputs differ" };
-        tried.wrong.push(format!("{direction:?}, {}, space {space}: {got:?} for {want:?}{differs}", told(tried.cases, &characters)));
+        case.wrong(tried, &format!("{got:?} for {want:?}{differs}"));
     }
     tried.cases += 1;
     want
 }
 
+/// A way to ask for what is made of a reading.
+pub struct Asked {
+    pub seed: u64,
+    /// The least space for what is made of so many characters.
+    pub space: fn(usize) -> usize,
+    /// Tries a case and gives its answer.
+    pub answer: fn(&mut Tried, &Case) -> Answer,
+}
+
+impl Asked {
+    /// Asks for a reading that stands in forward order.
+    pub fn ask(&self, tried: &mut Tried, direction: Direction, reading: &[u16], space: usize) -> Answer {
+        (self.answer)(tried, &Case { direction, characters: &in_direction(direction, reading), space })
+    }
+}
+
+/// Its data, as the reader of these tests gives them.
+pub const READ: Asked = Asked {
+    seed: 800,
+    space: |characters| characters.saturating_sub(2),
+    answer: |tried, case| compare(tried, case, LENT_BYTE, library::read800, reading800::read),
+};
+
 /// Every number as every character of a record of one byte.
-pub fn every_number(direction: Direction) -> Tried {
+pub fn every_number(asked: &Asked, direction: Direction) -> Tried {
     let mut tried = Tried::default();
     for number in 0..=u16::MAX {
         for place in 0..3 {
             let mut characters = written(&[212]);
             characters[place] = number;
-            compare(&mut tried, direction, characters, 1);
+            asked.ask(&mut tried, direction, &characters, (asked.space)(3));
         }
     }
     tried
 }
 
 /// Every track wrong in every choice of the characters of a record, up to n = 10.
-pub fn every_choice(direction: Direction) -> Tried {
+pub fn every_choice(asked: &Asked, direction: Direction) -> Tried {
     let mut seeded = Seeded(800);
     let mut tried = Tried::default();
     let mut answers = [0; 9];
@@ -204,24 +239,23 @@ pub fn every_choice(direction: Direction) -> Tried {
             let places: Vec<usize> = (0..n + 2).filter(|place| choice >> place & 1 == 1).collect();
             let mut characters = record.clone();
             flip(&mut characters, &places, 1 << track);
-            answers[compare(&mut tried, direction, characters, n).number()] += 1;
+            answers[asked.ask(&mut tried, direction, &characters, (asked.space)(n + 2)).number()] += 1;
         }
     }
     tried.tell_answers(&answers, &[0, 8]);
     tried
 }
 
-pub fn random_readings(direction: Direction) -> Tried {
-    let mut seeded = Seeded(800 + matches!(direction, Direction::Backward) as u64);
+pub fn random_readings(asked: &Asked, direction: Direction) -> Tried {
+    let mut seeded = Seeded(asked.seed + matches!(direction, Direction::Backward) as u64);
     let mut tried = Tried::default();
     let (mut answers, mut tracks, mut longest) = ([0; 9], [0; 10], [0; 9]);
     for case in 0..CASES {
         let reading = random_reading(&mut seeded, case);
-        let length = reading.len();
-        let space = seeded.space(length.saturating_sub(2));
-        let answer = compare(&mut tried, direction, reading, space);
+        let space = seeded.space((asked.space)(reading.len()));
+        let answer = asked.ask(&mut tried, direction, &reading, space);
         answers[answer.number()] += 1;
-        longest[answer.number()] += usize::from(length == 2050);
+        longest[answer.number()] += usize::from(reading.len() == 2050);
         if let Answer::Delivered(values) = answer {
             tracks[values[1] as usize] += 1;
         }

@@ -156,6 +156,20 @@ pub fn read800(direction: Direction, characters: &[u16], output: &mut [u8]) -> A
     answer(status, place, || vec![size as u64, track as u64, changes as u64])
 }
 
+/// A delivery tells what a reading at 800 tells, and the number of groups written.
+pub fn copy800(direction: Direction, characters: &[u16], words: &mut [u16]) -> Answer {
+    let (mut size, mut track, mut changes, mut groups, mut place) = (KEPT, KEPT, KEPT, KEPT, usize::MAX);
+    let call = match direction {
+        Direction::Forward => rindthok_copy800_forward,
+        Direction::Backward => rindthok_copy800_backward,
+    };
+    let (from, to) = (given(characters), words.as_mut_ptr());
+    let status = unsafe { call(from, characters.len(), to, words.len(), &mut size, &mut track, &mut changes, &mut groups, &mut place) };
+    let figures = [size, track, changes, groups];
+    assert!(status == 0 || figures == [KEPT; 4], "a refusal stores no value");
+    answer(status, place, || figures.map(|figure| figure as u64).to_vec())
+}
+
 /// What lies in a number before a call that may store a value there.
 const KEPT: usize = 0x5A5A;
 

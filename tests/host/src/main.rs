@@ -4,8 +4,10 @@
 mod abi;
 mod bench;
 mod card;
+mod copying;
 mod damage6250;
 mod damage800;
+mod damage_copy;
 mod damage_log;
 mod good_card;
 mod head_order;
@@ -22,6 +24,8 @@ mod spoiled_card;
 mod spoiled_log;
 mod vectors;
 
+use damage800::READ;
+use damage_copy::{BY_TWO_CALLS, COPIED, READ_BACK};
 use library::{Direction, Toward};
 use vectors::{BEHIND, LENT};
 
@@ -157,8 +161,7 @@ fn random_writes() -> Tried {
         tried.cases += 1;
         let count = random_length(&mut seeded, case);
         let bytes: Vec<u8> = (0..count).map(|_| seeded.next() as u8).collect();
-        let needed = 9 * (count / 7 + 1);
-        let space = seeded.space(needed);
+        let space = seeded.space(record6250::space(count));
         let mut words = vec![LENT; space + BEHIND];
         let mut after = vec![LENT; space + BEHIND];
         let got = library::write6250(&bytes, &mut words[..space]);
@@ -222,12 +225,31 @@ fn suites_at_800() -> Vec<Suite> {
         ("the 800 reader of these tests, without its short cut", short_cuts::records()),
         ("bench readings at 800", bench::readings800()),
         ("seeded writes at 800", damage800::random_writes()),
-        ("every number in a record at 800, forward", damage800::every_number(Direction::Forward)),
-        ("every number in a record at 800, backward", damage800::every_number(Direction::Backward)),
-        ("every choice of wrong characters at 800, forward", damage800::every_choice(Direction::Forward)),
-        ("every choice of wrong characters at 800, backward", damage800::every_choice(Direction::Backward)),
-        ("seeded readings at 800, forward", damage800::random_readings(Direction::Forward)),
-        ("seeded readings at 800, backward", damage800::random_readings(Direction::Backward)),
+        ("every number in a record at 800, forward", damage800::every_number(&READ, Direction::Forward)),
+        ("every number in a record at 800, backward", damage800::every_number(&READ, Direction::Backward)),
+        ("every choice of wrong characters at 800, forward", damage800::every_choice(&READ, Direction::Forward)),
+        ("every choice of wrong characters at 800, backward", damage800::every_choice(&READ, Direction::Backward)),
+        ("seeded readings at 800, forward", damage800::random_readings(&READ, Direction::Forward)),
+        ("seeded readings at 800, backward", damage800::random_readings(&READ, Direction::Backward)),
+    ])
+}
+
+fn suites_of_copying() -> Vec<Suite> {
+    named([
+        ("the copy of these tests, outside cases", vectors::of_kind("copy", |line| vectors::copy800(line, copying::copy))),
+        ("bench readings copied", bench::copies()),
+        ("every choice of faults in a copy", damage_copy::every_choice_of_faults()),
+        ("records of every length copied", damage_copy::every_length()),
+        ("every number in a record copied, forward", damage800::every_number(&COPIED, Direction::Forward)),
+        ("every number in a record copied, backward", damage800::every_number(&COPIED, Direction::Backward)),
+        ("every choice of wrong characters copied, forward", damage800::every_choice(&COPIED, Direction::Forward)),
+        ("every choice of wrong characters copied, backward", damage800::every_choice(&COPIED, Direction::Backward)),
+        ("seeded readings copied, forward", damage800::random_readings(&COPIED, Direction::Forward)),
+        ("seeded readings copied, backward", damage800::random_readings(&COPIED, Direction::Backward)),
+        ("seeded readings copied, and by two calls, forward", damage800::random_readings(&BY_TWO_CALLS, Direction::Forward)),
+        ("seeded readings copied, and by two calls, backward", damage800::random_readings(&BY_TWO_CALLS, Direction::Backward)),
+        ("seeded readings copied and read back, forward", damage800::random_readings(&READ_BACK, Direction::Forward)),
+        ("seeded readings copied and read back, backward", damage800::random_readings(&READ_BACK, Direction::Backward)),
     ])
 }
 
@@ -261,7 +283,15 @@ fn suites_of_cards() -> Vec<Suite> {
 }
 
 fn main() {
-    let parts = [outside_cases(), suites_at_6250(), suites_of_the_log(), suites_at_800(), suites_of_head_order(), suites_of_cards()];
+    let parts = [
+        outside_cases(),
+        suites_at_6250(),
+        suites_of_the_log(),
+        suites_at_800(),
+        suites_of_copying(),
+        suites_of_head_order(),
+        suites_of_cards(),
+    ];
     let suites: Vec<Suite> = parts.into_iter().flatten().collect();
     let mut failed = 0;
     for (name, tried) in &suites {

@@ -48,28 +48,48 @@ pub fn turned(characters: &[u16]) -> Vec<u16> {
     characters.iter().rev().copied().collect()
 }
 
+/// A forward reading as it comes in a direction, and one that comes in a direction as it is forward.
+pub fn in_direction(direction: Direction, characters: &[u16]) -> Vec<u16> {
+    match direction {
+        Direction::Forward => characters.to_vec(),
+        Direction::Backward => turned(characters),
+    }
+}
+
+/// How many characters a reading may have.
+pub const LENGTHS: std::ops::RangeInclusive<usize> = 3..=2050;
+
+/// The data of the one written record that fits a reading within the limits, with the figures of its delivery: their
+/// length, the corrected track or 9, and the changes. If not one fits, or a character is stray, the refusal.
+pub fn found(direction: Direction, characters: &[u16]) -> Result<(Vec<u8>, Vec<u64>), Answer> {
+    let characters = in_direction(direction, characters);
+    if let Some(place) = characters.iter().position(|&character| character > 511) {
+        return Err(Answer::Refused(3, place));
+    }
+    match &fitting(&characters)[..] {
+        [] => Err(Answer::Refused(7, 0)),
+        [record] => {
+            let data = data_of(record);
+            let (track, changes) = compared(&characters, record);
+            let figures = vec![data.len() as u64, track, changes];
+            Ok((data, figures))
+        }
+        _ => Err(Answer::Refused(8, 0)),
+    }
+}
+
 pub fn read(direction: Direction, characters: &[u16], output: &mut [u8]) -> Answer {
-    if characters.len() < 3 || characters.len() > 2050 {
+    if !LENGTHS.contains(&characters.len()) {
         return Answer::Refused(1, 0);
     }
     if output.len() < characters.len() - 2 {
         return Answer::Refused(2, 0);
     }
-    let characters = match direction {
-        Direction::Forward => characters.to_vec(),
-        Direction::Backward => turned(characters),
-    };
-    if let Some(place) = characters.iter().position(|&character| character > 511) {
-        return Answer::Refused(3, place);
-    }
-    match &fitting(&characters)[..] {
-        [] => Answer::Refused(7, 0),
-        [record] => {
-            let data = data_of(record);
-            let (track, changes) = compared(&characters, record);
+    match found(direction, characters) {
+        Ok((data, figures)) => {
             output[..data.len()].copy_from_slice(&data);
-            Answer::Delivered(vec![data.len() as u64, track, changes])
+            Answer::Delivered(figures)
         }
-        _ => Answer::Refused(8, 0),
+        Err(refusal) => refusal,
     }
 }

@@ -59,6 +59,11 @@ pub fn words_of_body(body: &[u8]) -> Vec<u16> {
     body.chunks(7).flat_map(|info| group(info).map(word)).collect()
 }
 
+/// How many words the record of so many bytes takes: nine for each seven bytes of its body.
+pub fn space(length: usize) -> usize {
+    9 * (body(&vec![0; length]).len() / 7)
+}
+
 /// The words of the written record.
 pub fn written(data: &[u8]) -> Vec<u16> {
     words_of_body(&body(data))

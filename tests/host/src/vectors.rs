@@ -107,7 +107,9 @@ fn direction_of(name: &str) -> Result<Direction, String> {
 /// The library's reader, or another that is to answer as it does; a log is written from a reading by the same type.
 pub type Reader = fn(Direction, &[u16], &[u16], &mut [u8]) -> Answer;
 pub type LogReader = fn(usize, &[u8], &mut [u16]) -> Answer;
-pub type Reader800 = fn(Direction, &[u16], &mut [u8]) -> Answer;
+
+/// The same for the calls that take a reading at 800: it is read into bytes, or copied into words.
+pub type From800<T> = fn(Direction, &[u16], &mut [T]) -> Answer;
 
 /// The same for writers.
 pub type Writer = fn(&[u8], &mut [u16]) -> Answer;
@@ -147,14 +149,24 @@ pub fn write800(line: &str, writer: Writer) -> Result<(), String> {
     write(line, writer, 1)
 }
 
-/// Runs one case of reading at 800 with a reader and tells what differs.
-pub fn read800(line: &str, reader: Reader800) -> Result<(), String> {
+/// Runs one case of a call that takes a reading at 800; `lent` makes an output of so much space with a field's numbers at its front.
+fn from800<T: PartialEq + Debug>(line: &str, call: From800<T>, lent: fn(usize, &str) -> Vec<T>) -> Result<(), String> {
     let fields = fields_of(line);
     let head = head_of(&fields);
     let space: usize = head[2].parse().unwrap();
-    let mut output = lent_bytes(space, &[]);
-    let got = reader(direction_of(head[1])?, &words_of(fields[1]), &mut output[..space]);
-    compare(got, answer_of(fields[2]), &output, &lent_bytes(space, &bytes_of(fields.get(3).unwrap_or(&""))))
+    let mut output = lent(space, "");
+    let got = call(direction_of(head[1])?, &words_of(fields[1]), &mut output[..space]);
+    compare(got, answer_of(fields[2]), &output, &lent(space, fields.get(3).unwrap_or(&"")))
+}
+
+/// Runs one case of reading at 800 with a reader and tells what differs.
+pub fn read800(line: &str, reader: From800<u8>) -> Result<(), String> {
+    from800(line, reader, |space, data| lent_bytes(space, &bytes_of(data)))
+}
+
+/// Runs one case of copying from 800 to 6250 with a copier and tells what differs.
+pub fn copy800(line: &str, copier: From800<u16>) -> Result<(), String> {
+    from800(line, copier, |space, words| lent(space, &words_of(words)))
 }
 
 fn words(line: &str, toward: Toward) -> Result<(), String> {
@@ -239,6 +251,7 @@ pub fn run(line: &str) -> Result<(), String> {
         "log" => read6250(line, library::log6250),
         "read-log" => read_log(line, library::read_log),
         "report" => program(line, |input| printed("report", input)),
+        "copy" => copy800(line, library::copy800),
         other => Err(format!("these tests know no case of the kind {other}")),
     }
 }
