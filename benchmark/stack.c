@@ -14,7 +14,7 @@ static uint16_t words[WORDS], characters[CHARACTERS], turned[WORDS], nine[9];
 static rindthok_algebraic_map maps[GROUPS];
 enum { SIZES = 6 };
 static const size_t sizes[SIZES] = {1, 80, 400, 500, BYTES800, BYTES};
-static size_t byte_count, group_count, character_count, log_length, card_length, told[3], place;
+static size_t byte_count, group_count, character_count, log_length, card_length, told[4], place;
 static const uint8_t *card;
 
 /* What is called: the call that is measured, or what stands in for it and notes where the stack stands. */
@@ -32,6 +32,7 @@ static void read6250(void) { CALL(rindthok_read6250_forward)(turned, 9 * group_c
 static void log6250(void) { CALL(rindthok_log6250_forward)(turned, 9 * group_count, maps, group_count, output, sizeof output, told, &place); }
 static void read_log(void) { CALL(rindthok_read_log)(group_count, log_bytes, log_length, maps, GROUPS, &place); }
 static void read800(void) { CALL(rindthok_read800_forward)(turned, character_count, output, sizeof output, told, told + 1, told + 2, &place); }
+static void copy800(void) { CALL(rindthok_copy800_forward)(turned, character_count, words, WORDS, told, told + 1, told + 2, told + 3, &place); }
 static void move_words(void) { CALL(rindthok_words_to_physical)(words, 9, nine, 9, &place); }
 static void move_map(void) { CALL(rindthok_map_to_algebraic)(5, maps, &place); }
 static void card_words(void) { CALL(rindthok_card_words_to_physical)(card, card_length, words, 9, nine, 9, &place); }
@@ -111,23 +112,6 @@ static void damage_at_6250(size_t data, int backward, int damage) {
     }
 }
 
-static void read_at_6250(size_t data, int backward, void (*function)(void)) {
-    int damage;
-    for (damage = 0; damage < DAMAGES; damage++) {
-        damage_at_6250(data, backward, damage);
-        measure(read6250, function);
-    }
-}
-
-/* The logs of the same readings. */
-static void log_at_6250(size_t data, int backward, void (*function)(void)) {
-    int damage;
-    for (damage = 0; damage < DAMAGES; damage++) {
-        damage_at_6250(data, backward, damage);
-        measure(log6250, function);
-    }
-}
-
 /* The logs of readings of all lengths, read back: without a mark, with one or two in every group, and refused. */
 static void read_logs(void) {
     int damage;
@@ -144,31 +128,39 @@ static void read_logs(void) {
     tell("read log");
 }
 
-/* A record of so many bytes at 800, read without error, with a wrong track, and refused. */
-static void read_at_800(size_t data, int backward, void (*function)(void)) {
-    int damage;
-    for (damage = 0; damage < 3; damage++) {
-        size_t k;
-        rindthok_write800(bytes, data, characters, CHARACTERS, &character_count, &place);
-        for (k = 0; k < character_count; k++)
-            turned[backward ? character_count - 1 - k : k] = characters[k];
-        if (damage)
-            turned[1] ^= 4;
-        if (damage > 1)
-            turned[2] ^= 8;
-        measure(read800, function);
-    }
+/* The reading of a record of so many bytes at 800: without error (0), with a wrong track (1), and to be refused (2). */
+#define DAMAGES800 3
+
+static void damage_at_800(size_t data, int backward, int damage) {
+    size_t k;
+    rindthok_write800(bytes, data, characters, CHARACTERS, &character_count, &place);
+    for (k = 0; k < character_count; k++)
+        turned[backward ? character_count - 1 - k : k] = characters[k];
+    if (damage)
+        turned[1] ^= 4;
+    if (damage > 1)
+        turned[2] ^= 8;
 }
 
-/* Records of data of up to so many bytes, read forward and backward. */
-static void reads(const char *forward, const char *backward, size_t limit, void (*read)(size_t, int, void (*)(void)), void (*functions[2])(void)) {
-    int direction;
-    for (direction = 0; direction < 2; direction++) {
-        size_t k;
-        for (k = 0; k < SIZES && sizes[k] <= limit; k++)
-            read(sizes[k], direction, functions[direction]);
-        tell(direction ? backward : forward);
+/* The readings at a density: of data of up to so many bytes, and of so many kinds, each made before it is read. */
+struct density {
+    size_t limit;
+    int damages;
+    void (*damage)(size_t, int, int);
+};
+static const struct density at6250 = {BYTES, DAMAGES, damage_at_6250}, at800 = {BYTES800, DAMAGES800, damage_at_800};
+
+/* The readings at a density in one direction, as a call takes them. */
+static void reads(const char *name, const struct density *density, int backward, void (*call)(void), void (*function)(void)) {
+    size_t k;
+    int damage;
+    for (k = 0; k < SIZES && sizes[k] <= density->limit; k++) {
+        for (damage = 0; damage < density->damages; damage++) {
+            density->damage(sizes[k], backward, damage);
+            measure(call, function);
+        }
     }
+    tell(name);
 }
 
 /* The calls by a card: by a good one, and refused by one that is short, one with a number above 8 and one with two equal. */
@@ -196,18 +188,20 @@ static void wiring_cards(void) {
 }
 
 int main(void) {
-    static void (*at6250[])(void) = {ANY(rindthok_read6250_forward), ANY(rindthok_read6250_backward)};
-    static void (*logs[])(void) = {ANY(rindthok_log6250_forward), ANY(rindthok_log6250_backward)};
-    static void (*at800[])(void) = {ANY(rindthok_read800_forward), ANY(rindthok_read800_backward)};
     size_t k;
     for (k = 0; k < BYTES; k++)
         bytes[k] = (uint8_t)(k * 167 + k / 256);
     writes("write6250", BYTES, write6250, ANY(rindthok_write6250));
-    reads("read6250 forward", "read6250 backward", BYTES, read_at_6250, at6250);
-    reads("log6250 forward", "log6250 backward", BYTES, log_at_6250, logs);
+    reads("read6250 forward", &at6250, 0, read6250, ANY(rindthok_read6250_forward));
+    reads("read6250 backward", &at6250, 1, read6250, ANY(rindthok_read6250_backward));
+    reads("log6250 forward", &at6250, 0, log6250, ANY(rindthok_log6250_forward));
+    reads("log6250 backward", &at6250, 1, log6250, ANY(rindthok_log6250_backward));
     read_logs();
     writes("write800", BYTES800, write800, ANY(rindthok_write800));
-    reads("read800 forward", "read800 backward", BYTES800, read_at_800, at800);
+    reads("read800 forward", &at800, 0, read800, ANY(rindthok_read800_forward));
+    reads("read800 backward", &at800, 1, read800, ANY(rindthok_read800_backward));
+    reads("copy800 forward", &at800, 0, copy800, ANY(rindthok_copy800_forward));
+    reads("copy800 backward", &at800, 1, copy800, ANY(rindthok_copy800_backward));
     measure(move_words, ANY(rindthok_words_to_physical));
     measure(move_words, ANY(rindthok_words_to_algebraic));
     measure(move_map, ANY(rindthok_map_to_physical));

@@ -1,7 +1,7 @@
 //! What is measured: records of two lengths at each density, clean and damaged, forward and backward, and what is moved
 //! between the orders.
 
-use crate::{calls, fast6250, fast800, fast_log, fast_order, Answer};
+use crate::{calls, fast6250, fast800, fast_copy, fast_log, fast_order, Answer};
 
 /// A seeded generator (splitmix64), so that every run measures the same records.
 pub struct Seeded(pub u64);
@@ -42,6 +42,9 @@ pub enum Call {
     ReadLog { marked: bool },
     Write800,
     Read800 { backward: bool, damage: Damage },
+    /// A reading at 800, written at 6250, and the two calls that do the same one after the other.
+    Copy800 { backward: bool, damage: Damage },
+    ReadThenWrite { backward: bool, damage: Damage },
     /// Nine words, and a map, by the standard card.
     Order { physical: bool },
     MapOrder { physical: bool },
@@ -167,7 +170,9 @@ impl Call {
             Call::Read6250 { backward, damage } | Call::Log6250 { backward, damage } => record6250(seeded, length, backward, damage),
             Call::ReadLog { marked } => record6250(seeded, length, false, if marked { Damage::OneTrack } else { Damage::Clean }),
             Call::Write800 => record800(seeded, length, false, Damage::Clean),
-            Call::Read800 { backward, damage } => record800(seeded, length, backward, damage),
+            Call::Read800 { backward, damage } | Call::Copy800 { backward, damage } | Call::ReadThenWrite { backward, damage } => {
+                record800(seeded, length, backward, damage)
+            }
             Call::Order { .. } | Call::MapOrder { .. } | Call::CardOrder { .. } | Call::CardMapOrder { .. } | Call::InverseCard => record_to_move(seeded),
         }
     }
@@ -181,6 +186,8 @@ impl Call {
             Call::ReadLog { marked: false } => "read log, clean".to_string(),
             Call::ReadLog { marked: true } => "read log, one mark in every group".to_string(),
             Call::Read800 { backward, damage } => format!("read 800 {}", reading(backward, damage)),
+            Call::Copy800 { backward, damage } => format!("copy 800 {}", reading(backward, damage)),
+            Call::ReadThenWrite { backward, damage } => format!("read 800 {}, then write 6250", reading(backward, damage)),
             Call::Order { physical } => format!("nine words {}", target(physical)),
             Call::MapOrder { physical } => format!("a map {}", target(physical)),
             Call::CardOrder { physical } => format!("nine words {} by a card", target(physical)),
@@ -198,6 +205,11 @@ impl Call {
             Call::ReadLog { .. } => (by.read_log)(record.maps.len(), &record.log, words),
             Call::Write800 => (by.write800)(&record.data, words),
             Call::Read800 { backward, .. } => by.read800[usize::from(backward)](&record.tape, bytes),
+            Call::Copy800 { backward, .. } => by.copy800[usize::from(backward)](&record.tape, words),
+            Call::ReadThenWrite { backward, .. } => match by.read800[usize::from(backward)](&record.tape, bytes) {
+                Answer::Delivered([size, ..]) => (by.write6250)(&bytes[..size], words),
+                refusal => refusal,
+            },
             Call::Order { physical } => by.order[usize::from(physical)](&record.tape, words),
             Call::MapOrder { physical } => by.map_order[usize::from(physical)](record.maps[0]),
             Call::CardOrder { physical } => by.card_order[usize::from(physical)](&record.card, &record.tape, words),
@@ -215,6 +227,7 @@ pub struct Implementation {
     read_log: fn(usize, &[u8], &mut [u16]) -> Answer,
     write800: fn(&[u8], &mut [u16]) -> Answer,
     read800: [fn(&[u16], &mut [u8]) -> Answer; 2],
+    copy800: [fn(&[u16], &mut [u16]) -> Answer; 2],
     order: [fn(&[u16], &mut [u16]) -> Answer; 2],
     map_order: [fn(u16) -> Answer; 2],
     card_order: [fn(&[u8], &[u16], &mut [u16]) -> Answer; 2],
@@ -229,6 +242,7 @@ pub const LIBRARY: Implementation = Implementation {
     read_log: calls::read_log,
     write800: calls::write800,
     read800: [calls::read800::<false>, calls::read800::<true>],
+    copy800: [calls::copy800::<false>, calls::copy800::<true>],
     order: [calls::words_to_algebraic, calls::words_to_physical],
     map_order: [calls::map::<false>, calls::map::<true>],
     card_order: [calls::words_by_card::<false>, calls::words_by_card::<true>],
@@ -243,6 +257,7 @@ pub const RUST: Implementation = Implementation {
     read_log: fast_log::read_back,
     write800: fast800::write,
     read800: [fast800::read::<false>, fast800::read::<true>],
+    copy800: [fast_copy::copy::<false>, fast_copy::copy::<true>],
     order: [fast_order::to_algebraic, fast_order::to_physical],
     map_order: [fast_order::map::<false>, fast_order::map::<true>],
     card_order: [fast_order::words_by_card::<false>, fast_order::words_by_card::<true>],

@@ -151,7 +151,7 @@ static POWERS: [[u8; 8]; 256] = powers(false);
 static BACK: [[u8; 8]; 256] = powers(true);
 static ERASURES: [[u8; 256]; 8] = erasures();
 
-fn store(info: &[u8; 7], words: &mut [u16; 9]) {
+pub fn store(info: &[u8; 7], words: &mut [u16; 9]) {
     let mut tracks = 0;
     for k in 0..7 {
         tracks ^= CONTRIBUTIONS[k][info[k] as usize];
@@ -183,7 +183,7 @@ pub fn write(bytes: &[u8], words: &mut [u16]) -> Answer {
         store(info.try_into().unwrap(), to.next().unwrap().try_into().unwrap());
     }
     store(&last, to.next().unwrap().try_into().unwrap());
-    Answer::Delivered([groups, 0, 0])
+    Answer::Delivered([groups, 0, 0, 0])
 }
 
 pub fn stray(words: &[u16], maps: &[u16], backward: bool) -> Option<usize> {
@@ -304,5 +304,5 @@ pub fn read<const BACKWARD: bool>(words: &[u16], maps: &[u16], output: &mut [u8]
     }
     let length = size - 1 - padding;
     output[..length].copy_from_slice(&body[..length]);
-    Answer::Delivered([length, changes, 0])
+    Answer::Delivered([length, changes, 0, 0])
 }

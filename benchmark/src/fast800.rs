@@ -50,7 +50,7 @@ pub fn write(bytes: &[u8], characters: &mut [u16]) -> Answer {
     check = shifted(check) ^ OFFSET;
     characters[n] = check;
     characters[n + 1] = longitudinal ^ check;
-    Answer::Delivered([n + 2, 0, 0])
+    Answer::Delivered([n + 2, 0, 0, 0])
 }
 
 fn turned<const BACKWARD: bool>(characters: &[u16], k: usize) -> u16 {
@@ -82,18 +82,21 @@ fn located(mut check: u16, mut pattern: u16, longitudinal: u16, wrong: usize) ->
     }
 }
 
-pub fn read<const BACKWARD: bool>(characters: &[u16], output: &mut [u8]) -> Answer {
+/// The length of the data, the one track that accounts for the reading and how many characters differ, or the refusal.
+/// Whether the space suffices is asked by that length.
+#[inline(always)]
+pub fn judged<const BACKWARD: bool>(characters: &[u16], suffices: impl Fn(usize) -> bool) -> Result<[usize; 3], Answer> {
     let count = characters.len();
     if count < 3 || count > MOST_DATA + 2 {
-        return Answer::Refused(1, 0);
+        return Err(Answer::Refused(1, 0));
     }
     let n = count - 2;
-    if output.len() < n {
-        return Answer::Refused(2, 0);
+    if !suffices(n) {
+        return Err(Answer::Refused(2, 0));
     }
     if characters.iter().fold(0, |all, &character| all | character) > 511 {
         let place = (0..count).find(|&k| turned::<BACKWARD>(characters, k) > 511).unwrap();
-        return Answer::Refused(3, place);
+        return Err(Answer::Refused(3, place));
     }
     let (mut check, mut pattern, mut longitudinal, mut wrong) = (0, 0, 0, 0);
     for k in 0..n {
@@ -111,13 +114,29 @@ pub fn read<const BACKWARD: bool>(characters: &[u16], output: &mut [u8]) -> Answ
     pattern = shifted(pattern) ^ odd << 8;
     longitudinal ^= crc ^ lrc;
     wrong += usize::from(odd) + usize::from(parity(lrc) ^ 1);
-    let track = match located(check, pattern, longitudinal, wrong) {
-        Ok(track) => track,
-        Err(number) => return Answer::Refused(number, 0),
-    };
-    for k in 0..n {
-        let character = turned::<BACKWARD>(characters, k);
-        output[k] = (character ^ (parity(character) ^ 1) << track) as u8;
+    match located(check, pattern, longitudinal, wrong) {
+        Ok(track) => Ok([n, track, wrong]),
+        Err(number) => Err(Answer::Refused(number, 0)),
     }
-    Answer::Delivered([n, track, wrong])
+}
+
+/// Stores data bytes with the track corrected, from index `first` on, as many as there is space for.
+#[inline(always)]
+pub fn correct<const BACKWARD: bool>(characters: &[u16], first: usize, track: usize, bytes: &mut [u8]) {
+    let start = if BACKWARD { characters.len() - first - bytes.len() } else { first };
+    let part = &characters[start..start + bytes.len()];
+    for (k, byte) in bytes.iter_mut().enumerate() {
+        let character = turned::<BACKWARD>(part, k);
+        *byte = (character ^ (parity(character) ^ 1) << track) as u8;
+    }
+}
+
+pub fn read<const BACKWARD: bool>(characters: &[u16], output: &mut [u8]) -> Answer {
+    match judged::<BACKWARD>(characters, |n| output.len() >= n) {
+        Ok([n, track, wrong]) => {
+            correct::<BACKWARD>(characters, 0, track, &mut output[..n]);
+            Answer::Delivered([n, track, wrong, 0])
+        }
+        Err(refusal) => refusal,
+    }
 }

@@ -92,7 +92,7 @@ pub fn write<const BACKWARD: bool>(words: &[u16], maps: &[u16], log: &mut [u8]) 
     let mut short = [0; 16];
     let changed = if groups <= 16 { &mut short[..groups] } else { &mut whole[..groups] };
     match gather::<BACKWARD>(words, maps, changed) {
-        Ok(()) => Answer::Delivered([store(changed, log), 0, 0]),
+        Ok(()) => Answer::Delivered([store(changed, log), 0, 0, 0]),
         Err(refusal) => refusal,
     }
 }
@@ -123,5 +123,5 @@ pub fn read_back(groups: usize, log: &[u8], maps: &mut [u16]) -> Answer {
             left &= left - 1;
         }
     }
-    Answer::Delivered([0; 3])
+    Answer::Delivered([0; 4])
 }

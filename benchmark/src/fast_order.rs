@@ -39,7 +39,7 @@ fn moved(source: &[u16], target: &mut [u16], places: [usize; 9]) -> Answer {
     for (to, from) in places.into_iter().enumerate() {
         target[to] = source[from];
     }
-    Answer::Delivered([0; 3])
+    Answer::Delivered([0; 4])
 }
 
 pub fn to_physical(source: &[u16], target: &mut [u16]) -> Answer {
@@ -53,7 +53,7 @@ pub fn to_algebraic(source: &[u16], target: &mut [u16]) -> Answer {
 pub fn map<const TO_PHYSICAL: bool>(map: u16) -> Answer {
     let table = if TO_PHYSICAL { &PHYSICAL_MAPS } else { &ALGEBRAIC_MAPS };
     match table.get(usize::from(map)) {
-        Some(&moved) => Answer::Delivered([usize::from(moved), 0, 0]),
+        Some(&moved) => Answer::Delivered([usize::from(moved), 0, 0, 0]),
         None => Answer::Refused(3, 0),
     }
 }
@@ -94,7 +94,7 @@ pub fn words_by_card<const TO_PHYSICAL: bool>(card: &[u8], source: &[u16], targe
         let (to, from) = if TO_PHYSICAL { (index, usize::from(number)) } else { (usize::from(number), index) };
         target[to] = source[from];
     }
-    Answer::Delivered([0; 3])
+    Answer::Delivered([0; 4])
 }
 
 pub fn map_by_card<const TO_PHYSICAL: bool>(card: &[u8], map: u16) -> Answer {
@@ -110,7 +110,7 @@ pub fn map_by_card<const TO_PHYSICAL: bool>(card: &[u8], map: u16) -> Answer {
         let (to, from) = if TO_PHYSICAL { (index, usize::from(number)) } else { (usize::from(number), index) };
         moved |= (usize::from(map) >> from & 1) << to;
     }
-    Answer::Delivered([moved, 0, 0])
+    Answer::Delivered([moved, 0, 0, 0])
 }
 
 pub fn inverse_card(card: &[u8], inverse: &mut [u8; 9]) -> Answer {
@@ -121,5 +121,5 @@ pub fn inverse_card(card: &[u8], inverse: &mut [u8; 9]) -> Answer {
     for (index, &number) in card.iter().enumerate() {
         inverse[usize::from(number)] = index as u8;
     }
-    Answer::Delivered([0; 3])
+    Answer::Delivered([0; 4])
 }

@@ -10,6 +10,7 @@ mod calls;
 mod cases;
 mod fast6250;
 mod fast800;
+mod fast_copy;
 mod fast_log;
 mod fast_order;
 mod picture;
@@ -21,7 +22,7 @@ use std::time::Instant;
 /// What a call answers: its figures, or the refusal with number and place.
 #[derive(Clone, Copy, Debug, PartialEq)]
 pub enum Answer {
-    Delivered([usize; 3]),
+    Delivered([usize; 4]),
     Refused(u16, usize),
 }
 
@@ -37,7 +38,7 @@ pub struct Measured {
     pub length: usize,
     pub library: f64,
     pub fast: f64,
-    pub copy: f64,
+    pub memcpy: f64,
 }
 
 fn nanoseconds(repeats: usize, mut work: impl FnMut()) -> f64 {
@@ -58,11 +59,13 @@ fn compare(call: Call, record: &Record) {
     assert!(words == words_again && bytes == bytes_again, "{}", call.name());
 }
 
-/// The records of a case, on which both implementations agree.
-fn compared(call: Call, length: usize) -> Vec<Record> {
+/// The records of the first call, on which both implementations agree in every call.
+fn compared(calls: &[Call], length: usize) -> Vec<Record> {
     let mut seeded = Seeded(212);
-    let records: Vec<Record> = (0..RECORDS).map(|_| call.record(&mut seeded, length)).collect();
-    records.iter().for_each(|record| compare(call, record));
+    let records: Vec<Record> = (0..RECORDS).map(|_| calls[0].record(&mut seeded, length)).collect();
+    for record in &records {
+        calls.iter().for_each(|&call| compare(call, record));
+    }
     records
 }
 
@@ -81,80 +84,66 @@ fn timed(call: Call, by: &Implementation, records: &[Record], repeats: usize, wo
     })
 }
 
-fn measured(call: Call, length: usize) -> Measured {
-    let records = compared(call, length);
+/// The lesser of each two times.
+fn least<const N: usize>(one: [f64; N], other: [f64; N]) -> [f64; N] {
+    std::array::from_fn(|k| one[k].min(other[k]))
+}
+
+/// One case by the library and by Rust, and memcpy of its data, in turn.
+fn case_in_turn(call: Call, length: usize) -> [f64; 3] {
+    let records = compared(&[call], length);
     let (mut words, mut bytes) = (vec![0; 5280], vec![0; 4104]);
     let repeats = repeats(length);
     let mut best = [f64::MAX; 3];
     for _ in 0..ROUNDS {
         let library = timed(call, &LIBRARY, &records, repeats, &mut words, &mut bytes);
         let fast = timed(call, &RUST, &records, repeats, &mut words, &mut bytes);
-        let copy = nanoseconds(repeats, || {
+        let memcpy = nanoseconds(repeats, || {
             for record in &records {
                 bytes[..record.data.len()].copy_from_slice(&black_box(record).data);
                 black_box(&mut bytes);
             }
         });
-        for (least, time) in best.iter_mut().zip([library, fast, copy]) {
-            *least = least.min(time);
-        }
+        best = least(best, [library, fast, memcpy]);
     }
-    Measured { call, length, library: best[0], fast: best[1], copy: best[2] }
+    best
 }
 
-/// A log written by the library and the same reading read by it, in turn: nanoseconds for one record.
-struct Logged {
-    name: String,
-    length: usize,
-    log: f64,
-    read: f64,
-}
-
-fn logged(backward: bool, damage: Damage, length: usize) -> Logged {
-    let [log, read] = [Call::Log6250 { backward, damage }, Call::Read6250 { backward, damage }];
-    let records = compared(log, length);
+/// Several calls by the library, in turn, on the records of the first.
+fn calls_in_turn<const N: usize>(calls: [Call; N], length: usize) -> [f64; N] {
+    let records = compared(&calls, length);
     let (mut words, mut bytes) = (vec![0; 5280], vec![0; 4104]);
-    let mut best = [f64::MAX; 2];
+    let mut best = [f64::MAX; N];
     for _ in 0..ROUNDS {
-        for (least, call) in best.iter_mut().zip([log, read]) {
-            *least = least.min(timed(call, &LIBRARY, &records, repeats(length), &mut words, &mut bytes));
-        }
+        best = least(best, calls.map(|call| timed(call, &LIBRARY, &records, repeats(length), &mut words, &mut bytes)));
     }
-    Logged { name: reading(backward, damage), length, log: best[0], read: best[1] }
+    best
 }
 
-/// Every reading whose log is measured beside it, each by the best of all passes.
-fn best_logs() -> Vec<Logged> {
-    let readings = || [false, true].into_iter().flat_map(|backward| DAMAGES.map(|damage| (backward, damage)));
-    let pass = || readings().flat_map(|(backward, damage)| [80, 4101].map(|length| logged(backward, damage, length))).collect::<Vec<_>>();
-    let mut all = pass();
-    for _ in 1..PASSES {
-        for (least, one) in all.iter_mut().zip(pass()) {
-            least.log = least.log.min(one.log);
-            least.read = least.read.min(one.read);
+/// The best times of all passes, for each case.
+fn best<Case, const N: usize>(cases: &[Case], in_turn: impl Fn(&Case) -> [f64; N]) -> Vec<[f64; N]> {
+    let mut all = vec![[f64::MAX; N]; cases.len()];
+    for _ in 0..PASSES {
+        for (best, case) in all.iter_mut().zip(cases) {
+            *best = least(*best, in_turn(case));
         }
     }
     all
 }
 
-/// The best of all passes, for each case.
-fn best(cases: &[(Call, usize)]) -> Vec<Measured> {
-    let pass = || cases.iter().map(|&(call, length)| measured(call, length)).collect::<Vec<_>>();
-    let mut all = pass();
-    for _ in 1..PASSES {
-        for (least, one) in all.iter_mut().zip(pass()) {
-            least.library = least.library.min(one.library);
-            least.fast = least.fast.min(one.fast);
-            least.copy = least.copy.min(one.copy);
-        }
-    }
-    all
+/// Every case with its times.
+fn measured(cases: &[(Call, usize)]) -> Vec<Measured> {
+    let times = best(cases, |&(call, length)| case_in_turn(call, length));
+    let rows = cases.iter().zip(times);
+    rows.map(|(&(call, length), [library, fast, memcpy])| Measured { call, length, library, fast, memcpy }).collect()
 }
 
 /// The damages at 6250.
 const DAMAGES: [Damage; 5] = [Damage::Clean, Damage::OneTrack, Damage::OnePointed, Damage::AnotherPointed, Damage::TwoPointed];
+/// The damages at 800.
+const DAMAGES_800: [Damage; 2] = [Damage::Clean, Damage::OneTrack];
 
-fn readings(read: impl Fn(bool, Damage) -> Call, damages: &[Damage]) -> Vec<Call> {
+fn readings<T>(read: impl Fn(bool, Damage) -> T, damages: &[Damage]) -> Vec<T> {
     [false, true].into_iter().flat_map(|backward| damages.iter().map(move |&damage| (backward, damage))).map(|(backward, damage)| read(backward, damage)).collect()
 }
 
@@ -174,12 +163,14 @@ fn cases() -> Vec<(Call, usize)> {
     let at6250 = |backward, damage| Call::Read6250 { backward, damage };
     let logged = |backward, damage| Call::Log6250 { backward, damage };
     let at800 = |backward, damage| Call::Read800 { backward, damage };
+    let copied = |backward, damage| Call::Copy800 { backward, damage };
     let mut calls = vec![(Call::Write6250, 4101)];
     calls.extend(readings(at6250, &DAMAGES).into_iter().map(|call| (call, 4101)));
     calls.extend(readings(logged, &DAMAGES).into_iter().map(|call| (call, 4101)));
     calls.extend([false, true].map(|marked| (Call::ReadLog { marked }, 4101)));
     calls.push((Call::Write800, 2048));
-    calls.extend(readings(at800, &[Damage::Clean, Damage::OneTrack]).into_iter().map(|call| (call, 2048)));
+    calls.extend(readings(at800, &DAMAGES_800).into_iter().map(|call| (call, 2048)));
+    calls.extend(readings(copied, &DAMAGES_800).into_iter().map(|call| (call, 2048)));
     let mut all: Vec<(Call, usize)> = calls.into_iter().flat_map(|(call, full)| [(call, 80), (call, full)]).collect();
     all.extend(moves().into_iter().map(|call| (call, 0)));
     all
@@ -201,8 +192,8 @@ fn print_table(all: &[Measured]) {
     println!("|---|---:|---:|---:|---:|---:|---:|");
     for one in all {
         let speed = if has_speed(one) { format!("{:.0}", 1000.0 * one.length as f64 / one.library) } else { String::new() };
-        let copy = if has_speed(one) { format!("{:.0}", one.copy) } else { String::new() };
-        println!("| {} | {} | {:.0} | {} | {:.0} | {:.2} | {} |", one.call.name(), one.length, one.library, speed, one.fast, one.library / one.fast, copy);
+        let memcpy = if has_speed(one) { format!("{:.0}", one.memcpy) } else { String::new() };
+        println!("| {} | {} | {:.0} | {} | {:.0} | {:.2} | {} |", one.call.name(), one.length, one.library, speed, one.fast, one.library / one.fast, memcpy);
     }
 }
 
@@ -216,26 +207,42 @@ fn print_growth(all: &[Measured]) {
     }
 }
 
-/// What a log costs beside reading the same record.
-fn print_logs(all: &[Logged]) {
-    println!("\n| log of a reading | bytes | log, ns | read, ns | log / read |");
-    println!("|---|---:|---:|---:|---:|");
-    for one in all {
-        println!("| {} | {} | {:.0} | {:.0} | {:.2} |", one.name, one.length, one.log, one.read, one.log / one.read);
+/// A log, beside reading the same record.
+fn log_beside(backward: bool, damage: Damage) -> [Call; 2] {
+    [Call::Log6250 { backward, damage }, Call::Read6250 { backward, damage }]
+}
+
+/// A copy, beside reading the same record, writing the same data, and the two one after the other, so that their sum has
+/// the loop around it once, as the copy has.
+fn copy_beside(backward: bool, damage: Damage) -> [Call; 4] {
+    [Call::Copy800 { backward, damage }, Call::Read800 { backward, damage }, Call::Write6250, Call::ReadThenWrite { backward, damage }]
+}
+
+/// What a call costs beside others on the same readings: the times of all, and the ratio of the first to the last.
+fn print_beside<const N: usize>(head: &str, calls: impl Fn(bool, Damage) -> [Call; N], damages: &[Damage], full: usize) {
+    let named = |backward, damage| (reading(backward, damage), calls(backward, damage));
+    let cases: Vec<_> = readings(named, damages).into_iter().flat_map(|(name, calls)| [80, full].map(|length| (name.clone(), calls, length))).collect();
+    let all = best(&cases, |&(_, calls, length)| calls_in_turn(calls, length));
+    println!("\n{head}");
+    println!("|---|{}", "---:|".repeat(N + 2));
+    for ((name, _, length), times) in cases.iter().zip(all) {
+        let columns: String = times.iter().map(|time| format!("{time:.0} | ")).collect();
+        println!("| {name} | {length} | {columns}{:.2} |", times[0] / times[N - 1]);
     }
 }
 
 fn main() {
     let argument = std::env::args().nth(1);
     if argument.as_deref() == Some("compare") {
-        let records: usize = cases().into_iter().map(|(call, length)| compared(call, length).len()).sum();
+        let records: usize = cases().into_iter().map(|(call, length)| compared(&[call], length).len()).sum();
         println!("{records} records, no difference");
         return;
     }
-    let all = best(&cases());
+    let all = measured(&cases());
     print_table(&all);
-    print_growth(&best(&growing()));
-    print_logs(&best_logs());
+    print_growth(&measured(&growing()));
+    print_beside("| log of a reading | bytes | log, ns | read, ns | log / read |", log_beside, &DAMAGES, 4101);
+    print_beside("| copy of a reading | bytes | copy, ns | read 800, ns | write 6250, ns | both, ns | copy / both |", copy_beside, &DAMAGES_800, 2048);
     if let Some(path) = argument {
         std::fs::write(&path, picture::drawn(&all.iter().filter(|one| has_speed(one)).collect::<Vec<_>>())).expect("the picture is written");
     }
