@@ -151,7 +151,7 @@ static POWERS: [[u8; 8]; 256] = powers(false);
 static BACK: [[u8; 8]; 256] = powers(true);
 static ERASURES: [[u8; 256]; 8] = erasures();
 
-pub fn store(info: &[u8; 7], words: &mut [u16; 9]) {
+fn store(info: &[u8; 7], words: &mut [u16; 9]) {
     let mut tracks = 0;
     for k in 0..7 {
         tracks ^= CONTRIBUTIONS[k][info[k] as usize];

@@ -3,7 +3,7 @@
 
 use crate::Answer;
 
-const MOST_DATA: usize = 2048;
+pub const MOST_DATA: usize = 2048;
 const GENERATOR: u16 = 633;
 const OFFSET: u16 = 471;
 
@@ -120,21 +120,21 @@ pub fn judged<const BACKWARD: bool>(characters: &[u16], suffices: impl Fn(usize)
     }
 }
 
-/// Stores data bytes with the track corrected, from index `first` on, as many as there is space for.
+/// Stores the data with the track corrected. The ones are counted: a loop without a look-up takes several characters at once.
 #[inline(always)]
-pub fn correct<const BACKWARD: bool>(characters: &[u16], first: usize, track: usize, bytes: &mut [u8]) {
-    let start = if BACKWARD { characters.len() - first - bytes.len() } else { first };
-    let part = &characters[start..start + bytes.len()];
+pub fn correct<const BACKWARD: bool>(characters: &[u16], track: usize, bytes: &mut [u8]) {
+    let data = if BACKWARD { &characters[2..] } else { &characters[..bytes.len()] };
     for (k, byte) in bytes.iter_mut().enumerate() {
-        let character = turned::<BACKWARD>(part, k);
-        *byte = (character ^ (parity(character) ^ 1) << track) as u8;
+        let character = turned::<BACKWARD>(data, k);
+        let odd = (character.count_ones() & 1 ^ 1) as u16;
+        *byte = (character ^ odd << track) as u8;
     }
 }
 
 pub fn read<const BACKWARD: bool>(characters: &[u16], output: &mut [u8]) -> Answer {
     match judged::<BACKWARD>(characters, |n| output.len() >= n) {
         Ok([n, track, wrong]) => {
-            correct::<BACKWARD>(characters, 0, track, &mut output[..n]);
+            correct::<BACKWARD>(characters, track, &mut output[..n]);
             Answer::Delivered([n, track, wrong, 0])
         }
         Err(refusal) => refusal,

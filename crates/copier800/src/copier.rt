@@ -63,7 +63,7 @@ fn copy_through(characters: &[u16], backward: bool, bytes: &mut [u8], words: &mu
     let enough = has_space(characters.len(), words.len());
     match judge_record(characters, backward, enough, &table) {
         Read::Delivered(figures) => {
-            store(characters, backward, figures.track, &table, bytes);
+            store(characters, backward, figures.track, bytes);
             let size = figures.length;
             answered(figures, write(&bytes[..size], words))
         }

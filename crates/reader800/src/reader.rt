@@ -10,8 +10,8 @@ ghost use mathlib.Core.List.{_++_};
 ghost use mathlib.Core.Path.{_≡_};
 ghost use Prim.Native.Nat.{_-_, _<_, _≤_};
 ghost use lib.ListN.{length, drop};
-ghost use Rattle.indexed.specs.List.{tabulate};
 ghost use Rattle.register.specs.Parity.{parity};
+ghost use Rattle.register.specs.Xor.{_⊕_};
 ghost use Rattle.answer.specs.Answer.{outputAfter};
 ghost use Rattle.record800.specs.Fits.{Passes};
 ghost use Rattle.record800.specs.Read.{picture, readData, readAnswer};
@@ -21,16 +21,25 @@ ghost use Rattle.terms.specs.Call as Call;
 ghost use Rattle.terms.specs.Reading.{at800};
 ghost use Rattle.terms.specs.Terms.{Terms};
 
+// 1 if the parity of a data character is wrong, since it is odd there, else 0. The ones are counted: with no look-up in it, the loop of
+// `store` is compiled to take several characters at once.
+fn parity_wrong(character: u16) -> u16
+    requires { ⌜ character < 512 ⌝ }
+    ensures { λ r. ⌜ r ≡ parity character ⊕ 1 ⌝ }
+{
+    (u16::count_ones(character) % 2) as u16 ^ 1
+}
+
 // Stores the data of the record that differs from the reading in a track.
-pub fn store(characters: &[u16], backward: bool, track: usize, parities: &[u16], output: &mut [u8])
-    requires { ⌜ Passes backward (now characters) × (track < 10) × (length (now characters) - 2 ≤ length (now output)) × (now parities ≡ tabulate 512 parity) ⌝ }
+pub fn store(characters: &[u16], backward: bool, track: usize, output: &mut [u8])
+    requires { ⌜ Passes backward (now characters) × (track < 10) × (length (now characters) - 2 ≤ length (now output)) ⌝ }
     ensures { λ _. ⌜ now (output .exit) ≡ storedData (length (now (characters .entry)) - 2) (picture backward (now (characters .entry))) track ++ drop (length (now (characters .entry)) - 2) (now (output .entry)) ⌝ }
 {
     let n = characters.len() - Code800::CHECKS;
     let mut k = 0;
     while k < n {
         let next = forward_character(characters, backward, k);
-        let off = parities[next as usize] ^ 1;
+        let off = parity_wrong(next);
         output[k] = ((next ^ (off << track)) % 256) as u8;
         k += 1;
     }
@@ -46,7 +55,7 @@ pub fn read_record(characters: &[u16], backward: bool, output: &mut [u8]) -> Rea
     let enough = data_length(characters.len()) <= output.len();
     match judge_record(characters, backward, enough, &table) {
         Read::Delivered(figures) => {
-            store(characters, backward, figures.track, &table, output);
+            store(characters, backward, figures.track, output);
             Read::Delivered(figures)
         }
         Read::Refused(refusal) => Read::Refused(refusal),

@@ -33,21 +33,18 @@ judge-record-requires c κs = search needs
 enum-known-figures : tie.Need-enum-known-figures
 enum-known-figures c = search needs
 
-slice-aggregate-store : tie.Need-slice-aggregate-store
-slice-aggregate-store c = search needs
-
 store-requires : tie.Need-store-requires
 store-requires c κs =
-    let figures = c .before .before .before in
+    let figures = c .before .before in
     let judging = figures .before .before in
     let start = judging .before .before .before .before .before .before .before in
     let is = told _ _ _ _ _ _ (sym (ap toldRead (figures .figures .given .1)) ∙ judging .judge-record .ensures) in
-    (is .passes, is .is-track, start .pre (is .passes .lengths), search needs)
+    (is .passes, is .is-track, start .pre (is .passes .lengths))
 
 slice-reshare-prefix-write : tie.Need-slice-reshare-prefix-write
 slice-reshare-prefix-write c =
     let stored = c .before .before in
-    let figures = stored .before .before .before .before in
+    let figures = stored .before .before .before in
     let judging = figures .before .before in
     let asked = judging .before .before in
     let args = asked .before .before .before .before .before .args in
@@ -78,7 +75,7 @@ returns : tie.Need-returns
 returns c =
     let written = c .before .before .before in
     let stored = written .before .before .before .before .before in
-    let figures = stored .before .before .before .before in
+    let figures = stored .before .before .before in
     let judging = figures .before .before in
     let asked = judging .before .before in
     let args = asked .before .before .before .before .before .args in
@@ -112,7 +109,6 @@ copy-through-spec =
     slice-aggregate-judge-record
     judge-record-requires
     enum-known-figures
-    slice-aggregate-store
     store-requires
     slice-reshare-prefix-write
     slice-aggregate-write

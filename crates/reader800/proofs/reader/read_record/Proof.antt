@@ -34,18 +34,15 @@ judge-record-requires c κs = search needs
 enum-known-figures : tie.Need-enum-known-figures
 enum-known-figures c = search needs
 
-slice-aggregate-store : tie.Need-slice-aggregate-store
-slice-aggregate-store c = search needs
-
 store-requires : tie.Need-store-requires
 store-requires c κs =
-    let figures = c .before .before .before in
+    let figures = c .before .before in
     let judging = figures .before .before in
     let sized = judging .before .before in
     let is = told _ _ _ _ _ _ (sym (ap toldRead (figures .figures .given .1)) ∙ judging .judge-record .ensures) in
     let output = now (sized .before .before .before .before .args .output) in
     let room = leb-true (sized .data-length .result) (length output) (is .some) in
-    (is .passes, is .is-track, omega (arith, room, sized .data-length .ensures), search needs)
+    (is .passes, is .is-track, omega (arith, room, sized .data-length .ensures))
 
 enum-known-refusal : tie.Need-enum-known-refusal
 enum-known-refusal c = search needs
@@ -56,7 +53,7 @@ same-length c = search needs
 returns : tie.Need-returns
 unfolding outputAfter readData
 returns c =
-    let figures = c .before .before .before .before .before .before in
+    let figures = c .before .before .before .before .before in
     let judging = figures .before .before in
     let sized = judging .before .before in
     let args = sized .before .before .before .before .args in
@@ -87,7 +84,6 @@ read-record-spec =
     slice-aggregate-judge-record
     judge-record-requires
     enum-known-figures
-    slice-aggregate-store
     store-requires
     enum-known-refusal
     same-length

@@ -10,24 +10,24 @@ use lib.ListN.{length, set, length-set}
 use lib.Pow.{shl-exact}
 use Rattle.indexed.proofs.Front.{front, front-more, front-all}
 use Rattle.indexed.proofs.Tabulate.{length-tabulate, getD-tabulate}
+use Rattle.register.specs.Parity.{parity}
 use Rattle.register.specs.Xor.{_⊕_}
-use Rattle.record800.specs.Read.{picture, candidate}
+use Rattle.record800.specs.Read.{picture, wrong, candidate}
 use Rattle.reader800.specs.Stored.{storedData}
-use Rattle.record800.proofs.Candidate.{wrong-lt}
-use Rattle.scan800.proofs.Gathering.{in-table, data-wrong}
-use Rattle.record800.proofs.Picture.{lengths-within}
+use Rattle.record800.proofs.Candidate.{expected-odd, wrong-lt}
+use Rattle.record800.proofs.Picture.{lengths-within, picture-below}
 use Rattle.reader800.proofs.reader.store.Statement.{statement}
 use Rattle.reader800.proofs.reader.store.Tie as tie
 
 abbrev Inv-loop : tie.InvT-loop
-Inv-loop characters backward track parities output₀ n k₀ output k = (k ≤ length characters - 2) × (length output ≡ length output₀)
+Inv-loop characters backward track output₀ n k₀ output k = (k ≤ length characters - 2) × (length output ≡ length output₀)
     × (output ≡ front k (storedData (length characters - 2) (picture backward characters) track) output₀)
 
 abbrev μ-loop : tie.MeasureT-loop
-μ-loop characters backward track parities output₀ n k₀ output k = length characters - 2 - k
+μ-loop characters backward track output₀ n k₀ output k = length characters - 2 - k
 
 sub-n : tie.Need-sub-n Inv-loop μ-loop
-sub-n c = omega (arith, lengths-within _ _ (c .before .before .before .pre .0))
+sub-n c = omega (arith, lengths-within _ _ (c .before .before .pre .0))
 
 loop-holds : tie.Need-loop-holds Inv-loop μ-loop
 loop-holds c = (search needs, refl, refl)
@@ -35,16 +35,10 @@ loop-holds c = (search needs, refl, refl)
 forward-character-requires : tie.Need-forward-character-requires Inv-loop μ-loop
 forward-character-requires c κs = search needs
 
-cast-off : tie.Need-cast-off Inv-loop μ-loop
-cast-off c = search needs
-
-mul-off : tie.Need-mul-off Inv-loop μ-loop
-mul-off c = search needs
-
-shared-slice-read-off : tie.Need-shared-slice-read-off Inv-loop μ-loop
-shared-slice-read-off c =
-    let start = c .before .before .before .before .before .before .before in
-    in-table (start .pre .0) (start .pre .3) _ (c .before .forward-character .ensures)
+parity-wrong-requires : tie.Need-parity-wrong-requires Inv-loop μ-loop
+parity-wrong-requires c κs =
+    let start = c .before .before .before .before .before in
+    rw (c .forward-character .ensures) (picture-below (start .args .backward) (now (start .args .characters)) (start .pre .0) (c .before .before .loop .k))
 
 cast-output : tie.Need-cast-output Inv-loop μ-loop
 cast-output c = search needs
@@ -65,16 +59,17 @@ loop-less : tie.Need-loop-less Inv-loop μ-loop
 loop-less c = search needs
 
 loop-again : tie.Need-loop-again Inv-loop μ-loop
-unfolding storedData candidate
+unfolding storedData candidate wrong
 loop-again c =
-    let start = c .before .before .before .before .before .before .before in
+    let start = c .before .before .before .before .before .before in
     let at = c .before .before .before .loop in
     let track = start .args .track in
+    let n = length (now (start .args .characters)) - 2 in
+    let l = picture (start .args .backward) (now (start .args .characters)) in
     let next = c .before .forward-character .ensures in
     let taken = c .before .before .loop-test .taken in
-    let off = data-wrong (start .pre .0) (start .pre .3) (at .k) next taken in
-    let shifted = shl-exact 1 track 16 (rw off (wrong-lt _ _ _)) (omega (arith, start .pre .1)) ∙ ap (λ (w : ℕ). w * 2 ^ track) off in
-    let n = length (now (start .args .characters)) - 2 in (
+    let off = c .parity-wrong .ensures ∙ ap₂ _⊕_ (ap parity next) (sym (expected-odd n l (at .k) taken)) in
+    let shifted = shl-exact 1 track 16 (rw off (wrong-lt n l (at .k))) (omega (arith, start .pre .1)) ∙ ap (λ (w : ℕ). w * 2 ^ track) off in (
       search needs,
       length-set (at .output) (at .k) _ ∙ at .inv .1,
       ap₂ (λ (m : List ℕ) (x : ℕ). set m (at .k) x) (at .inv .2)
@@ -88,7 +83,7 @@ same-length c = c .before .loop .inv .1
 returns : tie.Need-returns Inv-loop μ-loop
 unfolding storedData
 returns c =
-    let args = c .before .before .before .before .before .args in
+    let args = c .before .before .before .before .args in
     let n = length (now (args .characters)) - 2 in
     let all : c .before .loop .k ≡ n = omega arith in
     (rw all at (c .before .loop .inv .2))
@@ -103,9 +98,7 @@ store-spec =
     sub-n
     loop-holds
     forward-character-requires
-    cast-off
-    mul-off
-    shared-slice-read-off
+    parity-wrong-requires
     cast-output
     shl-output
     cast-output-2
