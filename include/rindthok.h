@@ -1,5 +1,5 @@
-/* Rindthok: records of nine-track tape, logs of what was corrected in them, and numbers between head order and code
- * order.
+/* Rindthok: records of nine-track tape, copies of them from 800 to 6250, logs of what was corrected in them, and numbers
+ * between head order and code order.
  *
  * Each call returns 0 for a delivery, or the number of a refusal, and stores the refusal's place
  * through `place`, or 0. Any lengths and any values may be passed: bad input is refused.
@@ -26,10 +26,11 @@
  * reading is turned forward first, so its places count from the record's beginning.
  *
  * Stack, as measured on x86-64 from the call to the lowest byte touched: a read at 6250 takes 7,728 bytes forward and
- * 7,760 backward, its log 7,824 and 7,856, a log read back 72, a read at 800 at most 1,192, a write 136 at 6250 and
- * 560 at 800, a call between the orders 8, one by a card 216. Where the C library is bound lazily, the first call of its
- * memcpy or memset runs the linker on the same stack, which takes some thousands of bytes more; link with -z now, or
- * statically. The calls allocate nothing and keep no state, so any number of threads may make them.
+ * 7,760 backward, its log 7,824 and 7,856, a log read back 72, a read at 800 at most 1,307, a copy from 800 to 6250
+ * 3,467, a write 136 at 6250 and 560 at 800, a call between the orders 8, one by a card 216. Where the C library is bound
+ * lazily, the first call of its memcpy or memset runs the linker on the same stack, which takes some thousands of bytes
+ * more; link with -z now, or statically. The calls allocate nothing and keep no state, so any number of threads may make
+ * them.
  *
  * The programs beside the library end with status 0, always, unless a signal ends them: a script tells a refusal by
  * the first word of the output, and a failure by standard error.
@@ -138,10 +139,10 @@ uint16_t rindthok_read800_backward(const uint16_t *characters, size_t character_
 /* Copies an 800 record onto a 6250 one: the record is read as by the calls above, forward or backward, and its data are
  * written as by rindthok_write6250, always forward, at the front of `words`. `size`, `track` and `changes` are the figures
  * of the reading, and `groups` is the number of groups that are written: one for each seven bytes of data, and one more.
- * What is written, read by rindthok_read6250_forward with no pointer and space enough, is delivered with the data of the
- * one 800 record that fits and with no change. Refusals as the 800 reader's, with the same places, but for 2: if the space
- * is under nine words a group, for as many groups as two bytes less than there are characters make. All else is then as it
- * was. */
+ * What is written, read at 6250 either way with no pointer and space enough, is delivered with the data of the one 800
+ * record that fits and with no change. Refusals as the 800 reader's, with the same places, but for 2: if `words` has under
+ * nine words for each of those groups, where the data are two bytes fewer than there are characters. All else is then as
+ * it was. */
 uint16_t rindthok_copy800_forward(const uint16_t *characters, size_t character_count, uint16_t *words, size_t word_space, size_t *size, size_t *track, size_t *changes, size_t *groups, size_t *place);
 uint16_t rindthok_copy800_backward(const uint16_t *characters, size_t character_count, uint16_t *words, size_t word_space, size_t *size, size_t *track, size_t *changes, size_t *groups, size_t *place);
 
