@@ -26,8 +26,8 @@
  * reading is turned forward first, so its places count from the record's beginning.
  *
  * Stack, as measured on x86-64 from the call to the lowest byte touched: a read at 6250 takes 7,728 bytes forward and
- * 7,760 backward, its log 7,824 and 7,856, a log read back 72, a read at 800 at most 1,307, a copy from 800 to 6250
- * 3,467, a write 136 at 6250 and 560 at 800, a call between the orders 8, one by a card 216. Where the C library is bound
+ * 7,760 backward, its log 7,824 and 7,856, a log read back 72, a read at 800 at most 1,307, a copy of an 800 record at
+ * most 3,467, a write 136 at 6250 and 560 at 800, a call between the orders 8, one by a card 216. Where the C library is bound
  * lazily, the first call of its memcpy or memset runs the linker on the same stack, which takes some thousands of bytes
  * more; link with -z now, or statically. The calls allocate nothing and keep no state, so any number of threads may make
  * them.

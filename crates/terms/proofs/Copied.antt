@@ -2,7 +2,7 @@
 -- from what was written, with no change.
 -- Assumes nothing.
 use mathlib.Core.Path.{_≡_, refl, sym, ap, subst, _∙_}
-use mathlib.Core.Bool.{Bool, true, false, not}
+use mathlib.Core.Bool.{Bool}
 use mathlib.Core.List.{List, [], _∷_, _++_}
 use Prim.Native.Nat.{ℕ, _-_, _*_, _≤_}
 use native.Mathlib.Nat.{le-of-eq}
@@ -14,7 +14,7 @@ use Rattle.copy800.proofs.Copy.{data-fit, record-of, groups-copied, length-copi
 use Rattle.copy800.specs.Copy.{copyGroups, copySpace, copied, copiedRecord, copyAnswer}
 use Rattle.record6250.specs.Record as six
 use Rattle.record800.specs.Fits as eight
-use Rattle.record800.specs.Read.{picture, spaceFor}
+use Rattle.record800.specs.Read.{spaceFor}
 use Rattle.terms.specs.Reading.{bpi6250, bpi800, Reading, at800, IsData, writtenRecord, undamaged, Enough, Passes, Fits, OneFits, told, unchanged, readAnswer, readData}
 use Rattle.terms.specs.Terms.{ReadsBack, groupsTold, copyStored, Copies, DecidesCopy}
 use Rattle.terms.proofs.Second.{read-back}

@@ -1,6 +1,6 @@
 //! Seeded records and readings at 800, damaged in the ways that document 01 speaks of and in combinations of them.
 //! The library and the implementation of these tests answer each, and their outputs are compared whole. A reading is read,
-//! or asked for in another way.
+//! or copied (`damage_copy`).
 
 use crate::library::{self, Answer, Direction};
 use crate::reading800::{self, in_direction};
@@ -208,7 +208,7 @@ impl Asked {
     }
 }
 
-/// Its data, as the reader of these tests gives them.
+/// The data of a reading, as the reader of these tests gives them.
 pub const READ: Asked = Asked {
     seed: 800,
     space: |characters| characters.saturating_sub(2),

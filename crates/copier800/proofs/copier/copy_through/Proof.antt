@@ -1,10 +1,7 @@
 -- `copier800::copier::copy_through` meets its contract: the data that are stored are those of the delivery, and the record that is written is
 -- theirs.
 -- Assumes nothing.
-use mathlib.Core.Bool.{Bool}
-use mathlib.Core.List.{List}
 use mathlib.Core.Path.{refl, sym, ap, _∙_}
-use Prim.Native.Nat.{ℕ}
 use borrow.Author.Needs.{needs}
 use denote.Ref.{now}
 use lib.ListN.{take}
