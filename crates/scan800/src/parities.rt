@@ -1,4 +1,4 @@
-// The parity of each character, as a table. A call lends it to its loops, so that a character takes one look-up: a
+// The parity of each character, as a table. A call lends it to the loop that gathers, so that a character takes one look-up: a
 // constant array is made where it is named, which is once a record.
 ghost use mathlib.Core.Path.{_≡_};
 ghost use Rattle.indexed.specs.List.{tabulate};
