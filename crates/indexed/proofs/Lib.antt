@@ -13,3 +13,4 @@ pub mod Part
 pub mod Map
 pub mod Rule
 pub mod Stores
+pub mod Only

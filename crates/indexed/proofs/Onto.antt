@@ -10,7 +10,7 @@ use native.Mathlib.Omega.{arith}
 use borrow.Author.Tests.{eq-eqb, ne-eqb, eqb-true}
 use lib.Dec.{eqb}
 use Rattle.indexed.specs.List.{total, occurrences}
-use Rattle.indexed.proofs.Total.{total-same, total-none, total-ones, total-swap, total-within, total-digits, one-of-total}
+use Rattle.indexed.proofs.Total.{total-same, total-one, total-none, total-ones, total-swap, total-within, total-digits, one-of-total}
 
 -- ---- how often a value occurs
 
@@ -34,16 +34,8 @@ is-same x y e = ap (λ (b : Bool). cond b 1 0) (eq-eqb x y e)
 
 -- among all values below n a number below n is one
 once : (n x : ℕ) → x < n → total n (same x) ≡ 1
-unfolding total
-once zero x h = absurd (not-suc-le-zero h)
-once (suc n) x h = by (ℕ-discrete x n) (once n x)
-  where
-    apart : (k : ℕ) → (x ≡ k → ⊥) → same x k ≡ 0
-    apart k ne = ap (λ (b : Bool). cond b 1 0) (ne-eqb x k ne)
-
-    by : Dec (x ≡ n) → (x < n → total n (same x) ≡ 1) → total n (same x) + same x n ≡ 1
-    by (yes e) before = ap₂ _+_ (total-none n (same x) (λ k b. apart k (λ at. omega arith))) (is-same x n e)
-    by (no ne) before = ap₂ _+_ (before (omega arith)) (apart n ne)
+once n x h =
+    total-one n (same x) x h (λ k b apart. ap (λ (t : Bool). cond t 1 0) (ne-eqb x k (λ e. apart (sym e)))) ∙ is-same x x refl
 
 module _ (n : ℕ) (f : ℕ → ℕ) (a : ℕ) where
   -- at two places it occurs twice, and what occurs twice has two places

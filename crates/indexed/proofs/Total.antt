@@ -4,7 +4,7 @@ use mathlib.Core.Path.{_≡_, refl, sym, ap, ap₂, _∙_}
 use mathlib.Core.Bool.{Bool, cond}
 use Prim.Native.Nat.{ℕ, zero, suc, _+_, _*_, _<_, _≤_}
 use native.Mathlib.Nat.{mul-zero, mul-suc, add-zero, add-suc, add-assoc, le-refl, not-suc-le-zero}
-use native.Mathlib.Decide.{decLt}
+use native.Mathlib.Decide.{ℕ-discrete, decLt}
 use native.Mathlib.Omega.{arith}
 use lib.Dec.{eqb}
 use Rattle.indexed.specs.List.{total}
@@ -68,6 +68,16 @@ none-of-total (suc n) f e k h = by (decLt k n) (none-of-total n f (omega arith) 
     by : Dec (k < n) → (k < n → f k ≡ 0) → f k ≡ 0
     by (yes b) ih = ih b
     by (no b) ih = let same : k ≡ n = omega arith in rw same (omega arith)
+
+-- of terms of which one only may be above 0
+pub total-one : (n : ℕ) (f : ℕ → ℕ) (g : ℕ) → g < n → ((k : ℕ) → k < n → (k ≡ g → ⊥) → f k ≡ 0) → total n f ≡ f g
+unfolding total
+total-one zero f g h others = absurd (not-suc-le-zero h)
+total-one (suc n) f g h others = by (ℕ-discrete n g) (λ b. total-one n f g b (λ k q. others k (omega arith)))
+  where
+    by : Dec (n ≡ g) → (g < n → total n f ≡ f g) → total n f + f n ≡ f g
+    by (yes last) before = rw (← last) (omega (arith, total-none n f (λ k q. others k (omega arith) (λ e. omega arith))))
+    by (no apart) before = omega (arith, before (omega arith), others n (omega arith) apart)
 
 -- ---- one term among them, parts, sums of zeros and ones, and a sum doubled
 

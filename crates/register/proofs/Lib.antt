@@ -11,3 +11,4 @@ pub mod Parity
 pub mod Held
 pub mod Matrix
 pub mod Flipped
+pub mod Counts

@@ -6,3 +6,4 @@ pub mod Held
 pub mod Exponent
 pub mod Parity
 pub mod Matrix
+pub mod Counts
