@@ -15,8 +15,8 @@ static void print_words(const char *what, const uint16_t *words)
 static void read_and_print(const char *what, const uint16_t *words, rindthok_algebraic_map map)
 {
     uint8_t bytes[6] = {0};
-    size_t size = 0, changes = 0, place = 0;
-    uint16_t status = rindthok_read6250_forward(words, 9, &map, 1, bytes, 6, &size, &changes, &place);
+    size_t size = 0, changes = 0, counts[9] = {0}, place = 0;
+    uint16_t status = rindthok_read6250_forward(words, 9, &map, 1, bytes, 6, &size, &changes, counts, &place);
 
     if (status == 0)
         printf("%s: delivered %zu byte, 0x%02x, %zu changed\n", what, size, bytes[0], changes);

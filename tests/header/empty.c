@@ -25,12 +25,40 @@ static void stored(const char *what, size_t figure, size_t expected)
     }
 }
 
+/* The nine counts that a call is handed; they start at 10 to 18, and a refusal leaves them. */
+static size_t counts[9];
+
+static void lend_counts(void)
+{
+    int k;
+
+    for (k = 0; k < 9; k++)
+        counts[k] = 10 + (size_t)k;
+}
+
+static void kept_counts(const char *what)
+{
+    int k;
+
+    for (k = 0; k < 9; k++)
+        stored(what, counts[k], 10 + (size_t)k);
+}
+
+static void no_counts(const char *what)
+{
+    int k;
+
+    for (k = 0; k < 9; k++)
+        stored(what, counts[k], 0);
+}
+
 typedef uint16_t read6250(const uint16_t *, size_t, const rindthok_algebraic_map *, size_t, uint8_t *, size_t, size_t *,
-                          size_t *, size_t *);
+                          size_t *, size_t[9], size_t *);
 typedef uint16_t log6250(const uint16_t *, size_t, const rindthok_algebraic_map *, size_t, uint8_t *, size_t, size_t *,
                          size_t *);
-typedef uint16_t read800(const uint16_t *, size_t, uint8_t *, size_t, size_t *, size_t *, size_t *, size_t *);
-typedef uint16_t copy800(const uint16_t *, size_t, uint16_t *, size_t, size_t *, size_t *, size_t *, size_t *, size_t *);
+typedef uint16_t read800(const uint16_t *, size_t, uint8_t *, size_t, size_t *, size_t *, size_t *, size_t[9], size_t *);
+typedef uint16_t copy800(const uint16_t *, size_t, uint16_t *, size_t, size_t *, size_t *, size_t *, size_t[9], size_t *,
+                         size_t *);
 typedef uint16_t move(const uint16_t *, size_t, uint16_t *, size_t, size_t *);
 typedef uint16_t card_move(const uint8_t *, size_t, const uint16_t *, size_t, uint16_t *, size_t, size_t *);
 
@@ -53,12 +81,14 @@ static void reads6250(read6250 *read, const uint16_t *words)
     const rindthok_algebraic_map map[1] = {{0}};
     size_t size = 7, changes = 7;
 
-    due("6250, nothing", read(NULL, 0, NULL, 0, NULL, 0, &size, &changes, &place), 1);
-    due("6250, no words", read(NULL, 0, map, 1, NULL, 0, &size, &changes, &place), 1);
-    due("6250, no map", read(words, 9, NULL, 0, NULL, 0, &size, &changes, &place), 1);
-    due("6250, no output", read(words, 9, map, 1, NULL, 0, &size, &changes, &place), 2);
+    lend_counts();
+    due("6250, nothing", read(NULL, 0, NULL, 0, NULL, 0, &size, &changes, counts, &place), 1);
+    due("6250, no words", read(NULL, 0, map, 1, NULL, 0, &size, &changes, counts, &place), 1);
+    due("6250, no map", read(words, 9, NULL, 0, NULL, 0, &size, &changes, counts, &place), 1);
+    due("6250, no output", read(words, 9, map, 1, NULL, 0, &size, &changes, counts, &place), 2);
     stored("6250", size, 7);
     stored("6250", changes, 7);
+    kept_counts("6250, counts");
 }
 
 static void logs6250(log6250 *log, const uint16_t *words)
@@ -78,15 +108,18 @@ static void read_log(void)
     const uint8_t log[1] = {0};
     rindthok_algebraic_map maps[1] = {{7}};
 
-    due("no groups, nothing", rindthok_read_log(0, NULL, 0, NULL, 0, &place), 9);
-    due("no groups, no log", rindthok_read_log(0, NULL, 0, maps, 1, &place), 9);
-    due("no log", rindthok_read_log(1, NULL, 0, maps, 1, &place), 9);
-    due("no space", rindthok_read_log(1, log, 1, NULL, 0, &place), 2);
-    due("no log, no space", rindthok_read_log(1, NULL, 0, NULL, 0, &place), 2);
-    due("no log, no space, too many groups", rindthok_read_log((size_t)-1, NULL, 0, NULL, 0, &place), 2);
+    lend_counts();
+    due("no groups, nothing", rindthok_read_log(0, NULL, 0, NULL, 0, counts, &place), 9);
+    due("no groups, no log", rindthok_read_log(0, NULL, 0, maps, 1, counts, &place), 9);
+    due("no log", rindthok_read_log(1, NULL, 0, maps, 1, counts, &place), 9);
+    due("no space", rindthok_read_log(1, log, 1, NULL, 0, counts, &place), 2);
+    due("no log, no space", rindthok_read_log(1, NULL, 0, NULL, 0, counts, &place), 2);
+    due("no log, no space, too many groups", rindthok_read_log((size_t)-1, NULL, 0, NULL, 0, counts, &place), 2);
     stored("read log, refused", maps[0].algebraic, 7);
-    due("a log without marks", rindthok_read_log(1, log, 1, maps, 1, &place), 0);
+    kept_counts("read log, refused");
+    due("a log without marks", rindthok_read_log(1, log, 1, maps, 1, counts, &place), 0);
     stored("a log without marks", maps[0].algebraic, 0);
+    no_counts("a log without marks");
 }
 
 static void write800(void)
@@ -105,11 +138,13 @@ static void reads800(read800 *read)
     const uint16_t characters[3] = {0};
     size_t size = 7, track = 7, changes = 7;
 
-    due("800, nothing", read(NULL, 0, NULL, 0, &size, &track, &changes, &place), 1);
-    due("800, no output", read(characters, 3, NULL, 0, &size, &track, &changes, &place), 2);
+    lend_counts();
+    due("800, nothing", read(NULL, 0, NULL, 0, &size, &track, &changes, counts, &place), 1);
+    due("800, no output", read(characters, 3, NULL, 0, &size, &track, &changes, counts, &place), 2);
     stored("800", size, 7);
     stored("800", track, 7);
     stored("800", changes, 7);
+    kept_counts("800, counts");
 }
 
 /* Copies the record of a byte 0, which is passed as it comes in the call's direction. */
@@ -119,19 +154,22 @@ static void copies800(copy800 *copy, const uint16_t *record)
     size_t size = 7, track = 7, changes = 7, groups = 7;
     int k;
 
-    due("copy, nothing", copy(NULL, 0, NULL, 0, &size, &track, &changes, &groups, &place), 1);
-    due("copy, no characters", copy(NULL, 0, words, 9, &size, &track, &changes, &groups, &place), 1);
-    due("copy, no words", copy(record, 3, NULL, 0, &size, &track, &changes, &groups, &place), 2);
+    lend_counts();
+    due("copy, nothing", copy(NULL, 0, NULL, 0, &size, &track, &changes, counts, &groups, &place), 1);
+    due("copy, no characters", copy(NULL, 0, words, 9, &size, &track, &changes, counts, &groups, &place), 1);
+    due("copy, no words", copy(record, 3, NULL, 0, &size, &track, &changes, counts, &groups, &place), 2);
     stored("copy, refused", size, 7);
     stored("copy, refused", track, 7);
     stored("copy, refused", changes, 7);
     stored("copy, refused", groups, 7);
+    kept_counts("copy, refused");
     for (k = 0; k < 9; k++)
         stored("copy, refused", words[k], 7);
-    due("copy", copy(record, 3, words, 9, &size, &track, &changes, &groups, &place), 0);
+    due("copy", copy(record, 3, words, 9, &size, &track, &changes, counts, &groups, &place), 0);
     stored("copy, size", size, 1);
     stored("copy, track", track, 9);
     stored("copy, changes", changes, 0);
+    no_counts("copy, counts");
     stored("copy, groups", groups, 1);
 }
 

@@ -1,7 +1,7 @@
 /* From the drive to the data and to the log the right way: words and map are moved, the record is read, and what is read back
- * of its log is moved to the drive's order; then words and map are moved by a card, and the record is copied from 800. Each
- * macro names what is handed over in one place; with another there, of the wrong order, words for a card, or maps or bytes for
- * a copy's characters and words, this must not compile. C and C++ alike. */
+ * of its log is moved to the drive's order; then words and map are moved by a card, and the record is read and copied from 800.
+ * Each macro names what is handed over in one place; with another there, of the wrong order, words for a card, maps or bytes for
+ * a copy's characters and words, or smaller numbers for the counts, this must not compile. C and C++ alike. */
 #include "rindthok.h"
 
 #ifndef READ_WITH
@@ -18,6 +18,27 @@
 #endif
 #ifndef LOG_READ_TO
 #define LOG_READ_TO marks
+#endif
+#ifndef READ_COUNTED_TO
+#define READ_COUNTED_TO counts
+#endif
+#ifndef READ_BACKWARD_COUNTED_TO
+#define READ_BACKWARD_COUNTED_TO counts
+#endif
+#ifndef LOG_COUNTED_TO
+#define LOG_COUNTED_TO counts
+#endif
+#ifndef READ800_COUNTED_TO
+#define READ800_COUNTED_TO counts
+#endif
+#ifndef READ800_BACKWARD_COUNTED_TO
+#define READ800_BACKWARD_COUNTED_TO counts
+#endif
+#ifndef COPY_COUNTED_TO
+#define COPY_COUNTED_TO counts
+#endif
+#ifndef COPY_BACKWARD_COUNTED_TO
+#define COPY_BACKWARD_COUNTED_TO counts
 #endif
 #ifndef MOVED
 #define MOVED drive_map.physical
@@ -82,7 +103,20 @@ static uint16_t characters[3], last_first[3], copy_forward[9], copy_backward[9];
 static rindthok_physical_map drive_maps[1];
 static rindthok_algebraic_map maps[1], marks[1];
 static uint8_t bytes[6], log_forward[3], log_backward[3], inverse[9];
-static size_t groups, size, track, changes, length, place;
+static size_t groups, size, track, changes, length, place, counts[9];
+
+/* Whether the counts tell that tracks 0 and 8 were changed so often, and no other track was; then they start again at 7. */
+static int counted(size_t first, size_t last)
+{
+    int k, due = 1;
+
+    for (k = 0; k < 9; k++) {
+        if (counts[k] != (k == 0 ? first : k == 8 ? last : 0))
+            due = 0;
+        counts[k] = 7;
+    }
+    return due;
+}
 
 /* Reads what the drive gives, two tracks of it damaged; 0, or the step that went wrong. */
 static int read_record(void)
@@ -97,9 +131,9 @@ static int read_record(void)
         return 3;
     if (rindthok_map_to_algebraic(MOVED, TO_ALGEBRAIC, &place) != 0 || maps[0].algebraic != 257)
         return 4;
-    if (rindthok_read6250_forward(words, 9, READ_WITH, 1, bytes, 6, &size, &changes, &place) != 0)
+    if (rindthok_read6250_forward(words, 9, READ_WITH, 1, bytes, 6, &size, &changes, READ_COUNTED_TO, &place) != 0)
         return 5;
-    return size == 1 && changes == 2 && bytes[0] == data[0] ? 0 : 6;
+    return size == 1 && changes == 2 && counted(1, 1) && bytes[0] == data[0] ? 0 : 6;
 }
 
 /* The nine words of the group as they pass the head backward: the ten bits of each reversed. */
@@ -124,11 +158,13 @@ static int write_log(void)
     if (rindthok_log6250_forward(words, 9, LOGGED_WITH, 1, log_forward, 3, &length, &place) != 0 || !is_due(log_forward))
         return 7;
     turn();
-    if (rindthok_read6250_backward(turned, 9, READ_BACKWARD_WITH, 1, bytes, 6, &size, &changes, &place) != 0 || changes != 2)
+    if (rindthok_read6250_backward(turned, 9, READ_BACKWARD_WITH, 1, bytes, 6, &size, &changes, READ_BACKWARD_COUNTED_TO, &place) != 0)
         return 8;
+    if (changes != 2 || !counted(1, 1))
+        return 24;
     if (rindthok_log6250_backward(turned, 9, LOGGED_BACKWARD_WITH, 1, log_backward, 3, &length, &place) != 0 || !is_due(log_backward))
         return 9;
-    if (rindthok_read_log(1, log_backward, length, LOG_READ_TO, 1, &place) != 0)
+    if (rindthok_read_log(1, log_backward, length, LOG_READ_TO, 1, LOG_COUNTED_TO, &place) != 0 || !counted(1, 1))
         return 10;
     if (rindthok_map_to_physical(marks[0].algebraic, TO_PHYSICAL, &place) != 0)
         return 11;
@@ -171,19 +207,40 @@ static int move_by_card(void)
     return 0;
 }
 
-/* Copies the same data's record from 800, both ways, to the words that were written. */
-static int copy_record(void)
+/* Writes the same data's record at 800 and makes track 8 of its byte's character wrong. */
+static int write_at_800(void)
 {
     int k;
 
     if (rindthok_write800(data, 1, characters, 3, &length, &place) != 0)
         return 20;
+    characters[0] ^= 256;
     for (k = 0; k < 3; k++)
         last_first[k] = characters[2 - k];
-    if (rindthok_copy800_forward(COPIED_FROM, 3, COPIED_TO, 9, &size, &track, &changes, &groups, &place) != 0)
+    return 0;
+}
+
+/* Reads that record, both ways. */
+static int read_at_800(void)
+{
+    if (rindthok_read800_forward(characters, 3, bytes, 1, &size, &track, &changes, READ800_COUNTED_TO, &place) != 0 || !counted(0, 1))
+        return 25;
+    if (rindthok_read800_backward(last_first, 3, bytes, 1, &size, &track, &changes, READ800_BACKWARD_COUNTED_TO, &place) != 0)
+        return 26;
+    return counted(0, 1) && track == 8 && changes == 1 ? 0 : 27;
+}
+
+/* Copies it, both ways, to the words that were written. */
+static int copy_record(void)
+{
+    if (rindthok_copy800_forward(COPIED_FROM, 3, COPIED_TO, 9, &size, &track, &changes, COPY_COUNTED_TO, &groups, &place) != 0)
         return 21;
-    if (rindthok_copy800_backward(COPIED_BACKWARD_FROM, 3, COPIED_BACKWARD_TO, 9, &size, &track, &changes, &groups, &place) != 0)
+    if (!counted(0, 1))
+        return 28;
+    if (rindthok_copy800_backward(COPIED_BACKWARD_FROM, 3, COPIED_BACKWARD_TO, 9, &size, &track, &changes, COPY_BACKWARD_COUNTED_TO, &groups, &place) != 0)
         return 22;
+    if (!counted(0, 1))
+        return 29;
     return are_due(copy_forward, code) && are_due(copy_backward, code) ? 0 : 23;
 }
 
@@ -196,5 +253,9 @@ int main(void)
         step = write_log();
     if (step == 0)
         step = move_by_card();
+    if (step == 0)
+        step = write_at_800();
+    if (step == 0)
+        step = read_at_800();
     return step != 0 ? step : copy_record();
 }

@@ -89,12 +89,13 @@ fn draw(
     maps: &[u16],
     right: &[u16; WORDS],
     view: View,
+    counts: &[usize],
 ) -> usize
     requires { ⌜ (length (now words) ≡ numbersPerGroup * length (now maps)) × (length (now maps) ≤ mostGroups + 1) ⌝ }
 {
     let mut marks = [0u8; Code6250::TRACKS * GROUPS];
     group_marks(words, maps, right, view, &mut marks);
-    picture::draw(page, held, &marks, maps.len(), maps.len(), true)
+    picture::draw(page, held, &marks, counts, maps.len(), maps.len(), true)
 }
 
 // A delivery: the figures, the data, and the picture, in which the record that was delivered shows what was
@@ -117,6 +118,8 @@ fn show_delivered(
     let mut right = [0u16; WORDS];
     write_again(output, figures.length, &mut right);
     let place = maps.len();
+    let each = figures.counts;
+    let counts = each.numbers();
     end = draw(
         page,
         end,
@@ -128,6 +131,7 @@ fn show_delivered(
             delivered: true,
             place,
         },
+        &counts,
     );
     put(
         page,
@@ -166,6 +170,7 @@ fn show_refused(
             delivered: false,
             place,
         },
+        &[],
     );
     put(
         page,

@@ -83,13 +83,14 @@ fn draw(
     characters: &[u16],
     right: &[u16; CHARACTERS],
     view: View,
+    counts: &[usize],
 ) -> usize
     requires { ⌜ length (now characters) ≤ 2051 ⌝ }
 {
     let columns = columns_of(characters.len());
     let mut marks = [0u8; Code6250::TRACKS * COLUMNS];
     run_marks(characters, right, view, columns, &mut marks);
-    picture::draw(page, held, &marks, columns, characters.len(), false)
+    picture::draw(page, held, &marks, counts, columns, characters.len(), false)
 }
 
 // A delivery: the figures, the data, and the picture, in which the record that was delivered shows what was
@@ -112,6 +113,7 @@ fn show_delivered(
     let mut right = [0u16; CHARACTERS];
     write_again(output, figures.length, &mut right);
     let place = columns_of(characters.len());
+    let counts = figures.counts();
     end = draw(
         page,
         end,
@@ -122,6 +124,7 @@ fn show_delivered(
             delivered: true,
             place,
         },
+        &counts,
     );
     put(page, end, b"marks: . as read, c corrected\n")
 }
@@ -154,6 +157,7 @@ fn show_refused(
             delivered: false,
             place,
         },
+        &[],
     );
     put(page, end, b"marks: . as read, x refused\n")
 }

@@ -1,5 +1,7 @@
 // The picture of a record: a row for each track, a column for each group or run of characters, in blocks of
-// at most 64 columns, in the forward order of the record.
+// at most 64 columns, in the forward order of the record. Where the record was delivered, each row ends with the changes of its track
+// in all of the record (document 02, request 2.7).
+use crate::print::figure;
 use crate::print::newline;
 use crate::print::number;
 use page::PAGE;
@@ -41,10 +43,19 @@ fn label(page: &mut [u8; PAGE], held: usize, track: usize, groups: bool) -> usiz
     put(page, numbered, b" ")
 }
 
+// The count of a track, a space in front of it; a refusal has no counts.
+fn put_count(page: &mut [u8; PAGE], held: usize, counts: &[usize], track: usize) -> usize {
+    if track < counts.len() {
+        return figure(page, held, counts[track]);
+    }
+    held
+}
+
 fn put_row(
     page: &mut [u8; PAGE],
     held: usize,
     marks: &[u8],
+    counts: &[usize],
     track: usize,
     from: usize,
     count: usize,
@@ -53,7 +64,8 @@ fn put_row(
 {
     let mut row = [0u8; 64];
     gather(marks, track, from, count, &mut row);
-    let end = put(page, held, &row[..count]);
+    let marked = put(page, held, &row[..count]);
+    let end = put_count(page, marked, counts, track);
     newline(page, end)
 }
 
@@ -74,6 +86,7 @@ fn put_rows(
     page: &mut [u8; PAGE],
     held: usize,
     marks: &[u8],
+    counts: &[usize],
     from: usize,
     count: usize,
     groups: bool,
@@ -84,7 +97,7 @@ fn put_rows(
     let mut track = 0;
     while track < Code6250::TRACKS {
         end = label(page, end, track, groups);
-        end = put_row(page, end, marks, track, from, count);
+        end = put_row(page, end, marks, counts, track, from, count);
         track += 1;
     }
     end
@@ -114,11 +127,13 @@ fn before(n: usize) -> usize
     if n == 0 { 0 } else { n - 1 }
 }
 
-// Puts the marks of so many columns, one for each track, which show so many groups, or characters.
+// Puts the marks of so many columns, one for each track, which show so many groups, or characters; and the counts of the tracks, if
+// there are any.
 pub(crate) fn draw(
     page: &mut [u8; PAGE],
     held: usize,
     marks: &[u8],
+    counts: &[usize],
     columns: usize,
     shown: usize,
     groups: bool,
@@ -131,7 +146,7 @@ pub(crate) fn draw(
         let count = block(columns - from);
         let behind = least(first_of(from + count, groups), shown);
         end = heading(page, end, first_of(from, groups), before(behind), groups);
-        end = put_rows(page, end, marks, from, count, groups);
+        end = put_rows(page, end, marks, counts, from, count, groups);
         from += count;
     }
     end

@@ -29,12 +29,12 @@ space-divided groups space = by (leb (9 * groups) space) refl
     by true e = le-leb groups (space / 9) (omega (arith, leb-true (9 * groups) space e))
     by false e = lt-leb groups (space / 9) (omega (arith, leb-false (9 * groups) space e))
 
-module _ (backward : Bool) (characters before : List ℕ) (size track changes : ℕ)
-    (is : delivered (size ∷ track ∷ changes ∷ []) ≡ answerIf backward characters (leb (copySpace (length characters)) (length before))) where
+module _ (backward : Bool) (characters before : List ℕ) (size track : ℕ) (others : List ℕ)
+    (is : delivered (size ∷ track ∷ others) ≡ answerIf backward characters (leb (copySpace (length characters)) (length before))) where
   -- ---- the bytes that are stored
 
   abbrev delivery : Told backward characters (leb (copySpace (length characters)) (length before)) size track
-  delivery = told backward characters (leb (copySpace (length characters)) (length before)) size track changes is
+  delivery = told backward characters (leb (copySpace (length characters)) (length before)) size track others is
 
   abbrev stored : List ℕ → List ℕ
   stored bytes = storedData (length characters - 2) (picture backward characters) track ++ drop (length characters - 2) bytes
@@ -56,7 +56,7 @@ module _ (backward : Bool) (characters before : List ℕ) (size track changes : 
 
   module _ (part : List ℕ) (same : part ≡ readData backward characters) (answer written : Answer)
       (writes : written ≡ writeAnswer (length part) (length before))
-      (answers : answer ≡ retold (λ groups. (size ∷ track ∷ changes ∷ []) ++ groups) written) where
+      (answers : answer ≡ retold (λ groups. (size ∷ track ∷ others) ++ groups) written) where
     length-part : length part ≡ length characters - 2
     unfolding readData
     length-part = ap length same ∙ length-data _ _
@@ -69,8 +69,8 @@ module _ (backward : Bool) (characters before : List ℕ) (size track changes : 
         ∙ write-delivers (length characters - 2) (length before) (omega (arith, lengths-within backward characters (delivery .passes)))
         (leb-true (copySpace (length characters)) (length before) (delivery .some))
 
-    tells : answer ≡ delivered ((size ∷ track ∷ changes ∷ []) ++ (copyGroups (length characters) ∷ []))
-    tells = answers ∙ ap (retold (λ groups. (size ∷ track ∷ changes ∷ []) ++ groups)) delivers
+    tells : answer ≡ delivered ((size ∷ track ∷ others) ++ (copyGroups (length characters) ∷ []))
+    tells = answers ∙ ap (retold (λ groups. (size ∷ track ∷ others) ++ groups)) delivers
 
     pub answer-copied : answer ≡ copyAnswer backward characters (length before)
     unfolding copyAnswer

@@ -5,9 +5,10 @@ mod stored;
 
 use answer::Refusal;
 pub use reader::read_log;
+use track_counts::Counts;
 
-// What reading a log back answers: a delivery, or the refusal.
+// What reading a log back answers: the marks of each track, or the refusal.
 pub enum ReadBack {
-    Delivered,
+    Delivered(Counts),
     Refused(Refusal),
 }

@@ -9,6 +9,7 @@ use answer::Reason;
 use answer::Refusal;
 use rectangular::Code6250;
 use sense_log::bit_map_length;
+use track_counts::Counts;
 ghost use mathlib.Core.Bool.{true};
 ghost use mathlib.Core.List.{_++_};
 ghost use mathlib.Core.Path.{_≡_};
@@ -17,6 +18,8 @@ ghost use lib.ListN.{length, drop};
 ghost use Rattle.indexed.specs.List.{tabulate};
 ghost use Rattle.answer.specs.Answer.{refusedFor, outputAfter};
 ghost use Rattle.sense_log.specs.Back.{lengthSuits, contentSuits, mapsOf, readLogAnswer};
+ghost use Rattle.sense_log.specs.Log.{trackMarks};
+ghost use Rattle.track_counts.specs.Counts.{countsTold};
 ghost use Rattle.log_reader.specs.Told.{toldBack};
 ghost use Rattle.terms.specs.Call as Call;
 ghost use Rattle.terms.specs.Terms.{Terms};
@@ -68,31 +71,38 @@ fn clear(groups: usize, maps: &mut [u16])
     }
 }
 
-// Stores the map of each group: zero, or, where its bit stands, the next of those in the log.
-fn deliver_marked(groups: usize, log: &[u8], maps: &mut [u16])
+// Stores the map of each group: zero, or, where its bit stands, the next of those in the log. Counts the marks of each track.
+fn deliver_marked(groups: usize, log: &[u8], maps: &mut [u16]) -> Counts
     requires { ⌜ (lengthSuits groups (now log) ≡ true) × (groups ≤ length (now maps)) ⌝ }
-    ensures { λ _. ⌜ now (maps .exit) ≡ mapsOf groups (now (log .entry)) ++ drop groups (now (maps .entry)) ⌝ }
+    ensures maps { λ _. ⌜ now (maps .exit) ≡ mapsOf groups (now (log .entry)) ++ drop groups (now (maps .entry)) ⌝ }
+    ensures marks { λ r. ⌜ countsTold r ≡ trackMarks (mapsOf groups (now (log .entry))) ⌝ }
 {
+    let mut marks = Counts::none();
     let mut at = bit_map_length(groups);
     let mut g = 0;
     while g < groups {
         let bit = group_bit(log, g);
-        maps[g] = map_of_group(bit, log, at);
+        let map = map_of_group(bit, log, at);
+        maps[g] = map;
+        marks = marks.with(map);
         at += 2 * (bit as usize);
         g += 1;
     }
+    marks
 }
 
-// Stores the map of each group. Most logs are of records in which nothing was changed, and that is seen by the length.
-fn deliver(groups: usize, log: &[u8], maps: &mut [u16])
+// Stores the map of each group, and counts the marks of each track. Most logs are of records in which nothing was changed, and that is seen
+// by the length.
+fn deliver(groups: usize, log: &[u8], maps: &mut [u16]) -> Counts
     requires { ⌜ (lengthSuits groups (now log) ≡ true) × (groups ≤ length (now maps)) ⌝ }
-    ensures { λ _. ⌜ now (maps .exit) ≡ mapsOf groups (now (log .entry)) ++ drop groups (now (maps .entry)) ⌝ }
+    ensures maps { λ _. ⌜ now (maps .exit) ≡ mapsOf groups (now (log .entry)) ++ drop groups (now (maps .entry)) ⌝ }
+    ensures marks { λ r. ⌜ countsTold r ≡ trackMarks (mapsOf groups (now (log .entry))) ⌝ }
 {
     if log.len() == bit_map_length(groups) {
         clear(groups, maps);
-    } else {
-        deliver_marked(groups, log, maps);
+        return Counts::none();
     }
+    deliver_marked(groups, log, maps)
 }
 
 // Reads a log back with its group count.
@@ -110,6 +120,6 @@ pub fn read_log(groups: usize, log: &[u8], maps: &mut [u16]) -> ReadBack
     if !content_suits(groups, log) {
         return refused(Reason::LogContent);
     }
-    deliver(groups, log, maps);
-    ReadBack::Delivered
+    let marks = deliver(groups, log, maps);
+    ReadBack::Delivered(marks)
 }

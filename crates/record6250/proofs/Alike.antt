@@ -3,7 +3,7 @@
 -- Assumes nothing.
 use mathlib.Core.Path.{_≡_, refl, ap, ap₂, _∙_}
 use mathlib.Core.Bool.{Bool, true, false, cond, not}
-use mathlib.Core.List.{List, [], _∷_}
+use mathlib.Core.List.{List, _∷_}
 use Prim.Native.Nat.{ℕ, _<_}
 use borrow.Author.Tests.{ltb-true}
 use lib.Count.{ones}
@@ -15,9 +15,11 @@ use Rattle.indexed.proofs.Blocks.{blocks-same}
 use Rattle.indexed.proofs.Tabulate.{tabulate-same}
 use Rattle.indexed.proofs.Total.{total-same}
 use Rattle.answer.specs.Answer.{Answer, delivered, refused, refusedFor}
+use Rattle.register.specs.Counts.{bitCounts}
+use Rattle.rectangular.specs.Constants.{tracks}
 use Rattle.rectangular.specs.Correction.{Judgement, changedMap}
 use Rattle.record6250.specs.Group.{isCorrected, reasonOf, rightBytes, rightWords}
-use Rattle.record6250.specs.Read.{paddingSuits, unpadded, readGroup, judgement, changedTracks, firstUnfit, readBody, readData, changedMaps, changes, judgedAnswer}
+use Rattle.record6250.specs.Read.{paddingSuits, unpadded, readGroup, judgement, changedTracks, firstUnfit, readBody, readData, changedMaps, changes, trackChanges, judgedAnswer}
 
 module _ (b c : Bool) (words maps words' maps' : List ℕ) (as-many : length maps' ≡ length maps)
     (groups : (g : ℕ) → g < length maps → readGroup c words' maps' g ≡ readGroup b words maps g)
@@ -54,17 +56,24 @@ module _ (b c : Bool) (words maps words' maps' : List ℕ) (as-many : length map
       ap (λ (n : ℕ). tabulate n (changedTracks c words' maps')) as-many
       ∙ tabulate-same (length maps) _ _ same-changed
 
+  same-tracks : trackChanges c words' maps' ≡ trackChanges b words maps
+  unfolding trackChanges
+  same-tracks = ap (bitCounts tracks) same-maps
+
   pub same-answer : judgedAnswer c words' maps' ≡ judgedAnswer b words maps
   unfolding judgedAnswer readData
   same-answer =
       ap₂ (λ (u n : ℕ). cond (ltb u n) (refusedFor (reasonOf (judgement c words' maps' u)) u) rest') same-unfit as-many
       ∙ by (ltb (firstUnfit b words maps) (length maps)) refl
     where
+      of : List ℕ → List ℕ → Answer
+      of l told = cond (paddingSuits l) (delivered (length (unpadded l) ∷ told)) (refused 6 0)
+
       rest' : Answer
-      rest' = cond (paddingSuits (readBody c words' maps')) (delivered (length (unpadded (readBody c words' maps')) ∷ changes c words' maps' ∷ [])) (refused 6 0)
+      rest' = of (readBody c words' maps') (changes c words' maps' ∷ trackChanges c words' maps')
 
       rest : Answer
-      rest = cond (paddingSuits (readBody b words maps)) (delivered (length (unpadded (readBody b words maps)) ∷ changes b words maps ∷ [])) (refused 6 0)
+      rest = of (readBody b words maps) (changes b words maps ∷ trackChanges b words maps)
 
       by : (t : Bool) → ltb (firstUnfit b words maps) (length maps) ≡ t
           → cond t (refusedFor (reasonOf (judgement c words' maps' (firstUnfit b words maps))) (firstUnfit b words maps)) rest'
@@ -72,4 +81,4 @@ module _ (b c : Bool) (words maps words' maps' : List ℕ) (as-many : length map
       by true e =
           ap (λ (j : Judgement). refusedFor (reasonOf j) (firstUnfit b words maps)) (judgements (firstUnfit b words maps) (ltb-true _ _ e))
       by false e =
-          ap₂ (λ (l : List ℕ) (n : ℕ). cond (paddingSuits l) (delivered (length (unpadded l) ∷ n ∷ [])) (refused 6 0)) same-body same-changes
+          ap₂ of same-body (ap₂ (λ (n : ℕ) (l : List ℕ). n ∷ l) same-changes same-tracks)

@@ -2,7 +2,7 @@
 -- Assumes nothing.
 use mathlib.Core.Path.{_≡_, refl}
 use mathlib.Core.Bool.{Bool, true, false, cond, not}
-use mathlib.Core.List.{List, [], _∷_}
+use mathlib.Core.List.{List, _∷_}
 use mathlib.Core.Logic.{_⊎_, inl, inr}
 use Prim.Native.Nat.{ℕ, _<_}
 use native.Mathlib.Omega.{arith}
@@ -11,7 +11,7 @@ use lib.Dec.{ltb}
 use lib.ListN.{length}
 use Rattle.answer.specs.Answer.{Answer, delivered, refused, refusedFor}
 use Rattle.record6250.specs.Group.{isCorrected, reasonOf}
-use Rattle.record6250.specs.Read.{judgement, firstUnfit, readBody, readData, changes, paddingSuits, judgedAnswer}
+use Rattle.record6250.specs.Read.{judgement, firstUnfit, readBody, readData, changes, trackChanges, paddingSuits, judgedAnswer}
 use Rattle.indexed.proofs.Below.{first-below-le}
 
 module _ (backward : Bool) (words maps : List ℕ) where
@@ -23,7 +23,7 @@ module _ (backward : Bool) (words maps : List ℕ) where
   refusal = refusedFor (reasonOf (judgement backward words maps unfit)) unfit
 
   abbrev pub delivery : Answer
-  delivery = delivered (length (readData backward words maps) ∷ changes backward words maps ∷ [])
+  delivery = delivered (length (readData backward words maps) ∷ changes backward words maps ∷ trackChanges backward words maps)
 
   abbrev pub suits : Bool
   suits = paddingSuits (readBody backward words maps)

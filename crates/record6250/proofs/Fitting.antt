@@ -4,7 +4,7 @@
 -- Assumes nothing.
 use mathlib.Core.Path.{_≡_, sym, ap, ap₂, subst, _∙_}
 use mathlib.Core.Bool.{Bool, true, false, not, true≢false}
-use mathlib.Core.List.{List, [], _∷_}
+use mathlib.Core.List.{List, _∷_}
 use mathlib.Core.Logic.{inl, inr}
 use Prim.Native.Nat.{ℕ, _*_, _<_}
 use native.Mathlib.Nat.{zero-lt-suc}
@@ -15,19 +15,21 @@ use Rattle.answer.specs.Answer.{delivered, refused}
 use Rattle.indexed.proofs.Blocks.{length-blocks, blocks-same, cut-blocks, join-cuts}
 use Rattle.indexed.specs.Differ.{differences}
 use Rattle.indexed.proofs.Tabulate.{tabulate-same}
-use Rattle.indexed.proofs.Total.{total-same}
-use Rattle.rectangular.specs.Constants.{feedback}
+use Rattle.indexed.proofs.Total.{total-same, differences-total}
+use Rattle.register.specs.Counts.{bitCounts}
+use Rattle.register.proofs.Counts.{count-tabulate}
+use Rattle.rectangular.specs.Constants.{feedback, tracks}
 use Rattle.rectangular.specs.Correction.{Judgement, corrected, changedMap}
 use Rattle.rectangular.specs.Group.{group}
 use Rattle.rectangular.proofs.Equations.{Below}
-use Rattle.record6250.specs.Fits.{IsData, Passes, FitsGroup, Fits, wordsChanged, mapsChanged}
+use Rattle.record6250.specs.Fits.{IsData, Passes, FitsGroup, Fits, wordsChanged, trackDifferences, mapsChanged}
 use Rattle.record6250.specs.Group.{isCorrected, rightValues, rightBytes, rightWords}
 use Rattle.record6250.specs.Picture.{groupRead}
-use Rattle.record6250.specs.Read.{readGroup, readMap, judgement, changedTracks, firstUnfit, readBody, readData, changedMaps, changes, paddingSuits, unpadded, judgedAnswer}
+use Rattle.record6250.specs.Read.{readGroup, readMap, judgement, changedTracks, firstUnfit, readBody, readData, changedMaps, changes, trackChanges, paddingSuits, unpadded, judgedAnswer}
 use Rattle.record6250.specs.Record.{body, groupsFor, groupBytes, groupWords, writtenRecord}
 use Rattle.record6250.proofs.Bounded.{blocks-bounded}
 use Rattle.record6250.proofs.Cases.{ThreeCases, cases}
-use Rattle.rectangular.proofs.Changed.{ones-changed}
+use Rattle.rectangular.proofs.Changed.{ones-changed, bit-changed}
 use Rattle.indexed.proofs.Below.{first-below-before, first-below-none}
 use Rattle.record6250.proofs.FittingGroup.{length-rightBytes, bytes-of-group, group-complete, corrected-fits}
 use Rattle.record6250.proofs.Padding.{length-body, body-suits, unpadded-body, body-below, length-unpadded, groups-of-unpadded, body-of-unpadded}
@@ -90,14 +92,30 @@ module _ (backward : Bool) (words maps : List ℕ) (passes : Passes backward wor
         (λ g h. ones-changed 9 (readGroup backward words maps g) (rightWords (judgement backward words maps g))
         ∙ ap (λ (right : List ℕ). differences 9 (λ k. getD (readGroup backward words maps g) k 0) (λ k. getD right k 0)) (right-written g h))
 
-    pub fits-delivered : (judgedAnswer backward words maps ≡ delivered (length bytes ∷ wordsChanged backward words maps bytes ∷ []))
+    -- and the words that differ in each track
+    tracks-counted : trackChanges backward words maps ≡ trackDifferences backward words maps bytes
+    unfolding trackChanges trackDifferences mapsChanged bitCounts
+    tracks-counted =
+        ap (bitCounts tracks) maps-changed
+        ∙ tabulate-same tracks _ _ (λ k h. count-tabulate k (length maps) _
+        ∙ total-same (length maps) _ _
+        (λ g b. bit-changed tracks (readGroup backward words maps g) (groupRead false (length maps) (writtenRecord bytes) g) k h)
+        ∙ sym (differences-total (length maps) _ _))
+
+    abbrev told : List ℕ
+    told = length bytes ∷ wordsChanged backward words maps bytes ∷ trackDifferences backward words maps bytes
+
+    pub fits-delivered : (judgedAnswer backward words maps ≡ delivered told)
         × (readData backward words maps ≡ bytes)
     fits-delivered = (by (cases backward words maps), data-read)
       where
         by : ThreeCases backward words maps (judgedAnswer backward words maps)
-            → judgedAnswer backward words maps ≡ delivered (length bytes ∷ wordsChanged backward words maps bytes ∷ [])
+            → judgedAnswer backward words maps ≡ delivered told
         by (inl c) = absurd (omega (arith, none-unfit))
-        by (inr (inl c)) = c .2 ∙ ap₂ (λ (n d : ℕ). delivered (n ∷ d ∷ [])) (ap length data-read) changes-counted
+        by (inr (inl c)) =
+            c .2
+            ∙ ap₂ (λ (n : ℕ) (l : List ℕ). delivered (n ∷ l)) (ap length data-read)
+            (ap₂ (λ (n : ℕ) (l : List ℕ). n ∷ l) changes-counted tracks-counted)
         by (inr (inr c)) = absurd (true≢false (sym (ap paddingSuits body-read ∙ body-suits bytes) ∙ c .1))
 
   pub only-one : (a b : List ℕ) → Fits backward words maps a → Fits backward words maps b → a ≡ b

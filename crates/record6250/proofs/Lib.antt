@@ -13,6 +13,7 @@ pub mod Reading
 pub mod Cases
 pub mod Answer
 pub mod Fitting
+pub mod Counted
 pub mod Refused
 pub mod Undamaged
 pub mod Backward

@@ -3,7 +3,7 @@
 -- Assumes nothing.
 use mathlib.Core.Path.{_≡_, refl, sym, ap, ap₂, subst, _∙_}
 use mathlib.Core.Bool.{Bool, false, _&&_, _||_}
-use mathlib.Core.List.{List, [], _∷_}
+use mathlib.Core.List.{List, _∷_}
 use mathlib.Core.Logic.{inl}
 use Prim.Native.Nat.{ℕ, _-_, _*_, _<_, _≤_}
 use native.Mathlib.Omega.{arith}
@@ -15,14 +15,16 @@ use Rattle.answer.specs.Answer.{delivered}
 use Rattle.slices.specs.Turned.{turnedPlace}
 use Rattle.indexed.proofs.Blocks.{blocks-same}
 use Rattle.indexed.proofs.Differ.{differences-none, equal-of-no-differences}
+use Rattle.indexed.specs.List.{tabulate, tabulateFrom}
+use Rattle.indexed.proofs.Tabulate.{tabulate-same}
 use Rattle.indexed.proofs.Total.{total-none, none-of-total}
 use Rattle.group_code.specs.Word.{illegality}
-use Rattle.rectangular.specs.Constants.{feedback, numbersPerGroup}
+use Rattle.rectangular.specs.Constants.{feedback, tracks, numbersPerGroup}
 use Rattle.rectangular.specs.Correction.{pointedTracks, Allowed}
 use Rattle.rectangular.specs.Group.{track}
 use Rattle.rectangular.proofs.Equations.{Below}
 use Rattle.rectangular.proofs.Pointed.{none-pointed}
-use Rattle.record6250.specs.Fits.{IsData, Passes, FitsGroup, Fits, wordsChanged}
+use Rattle.record6250.specs.Fits.{IsData, Passes, FitsGroup, Fits, wordsChanged, trackDifferences}
 use Rattle.record6250.specs.Group.{relied}
 use Rattle.record6250.specs.Picture.{groupLent, groupRead, mapRead}
 use Rattle.record6250.specs.Read.{readNumbers, readGroup, readMap, lengthsSuit, strayAt, firstStray, readData, readAnswer}
@@ -122,11 +124,17 @@ module _ (bytes : List ℕ) (is-data : IsData bytes) where
   pub undamaged-data : readData false words maps ≡ bytes
   undamaged-data = fits-delivered false words maps passes bytes itself-fits .1
 
-  pub undamaged-answer : (space : ℕ) → 7 * length maps - 1 ≤ space → readAnswer false words maps space ≡ delivered (length bytes ∷ 0 ∷ [])
+  none-counted : trackDifferences false words maps bytes ≡ replicate tracks 0
+  unfolding trackDifferences readGroup tabulate tabulateFrom
+  none-counted =
+      tabulate-same tracks _ (λ k. 0) (λ k h. differences-none (λ g. getD (groupRead false (length maps) words g) k 0) _ (length maps) (λ g b. refl))
+
+  pub undamaged-answer : (space : ℕ) → 7 * length maps - 1 ≤ space
+      → readAnswer false words maps space ≡ delivered (length bytes ∷ 0 ∷ replicate tracks 0)
   undamaged-answer space enough =
       answer-passed false words maps passes space enough
       ∙ fits-delivered false words maps passes bytes itself-fits .0
-      ∙ ap (λ (n : ℕ). delivered (length bytes ∷ n ∷ [])) none-changed
+      ∙ ap₂ (λ (n : ℕ) (l : List ℕ). delivered (length bytes ∷ n ∷ l)) none-changed none-counted
 
 -- a written record has one list of data: they are read from it
 pub one-data : (bytes others : List ℕ) → IsData bytes → IsData others → writtenRecord bytes ≡ writtenRecord others → bytes ≡ others

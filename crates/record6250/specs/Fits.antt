@@ -46,6 +46,12 @@ module _ (backward : Bool) (words maps : List ℕ) where
       total (length maps) (λ g. differences tracks (λ k. getD (readGroup backward words maps g) k 0)
       (λ k. getD (groupRead false (length maps) (writtenRecord bytes) g) k 0))
 
+  -- in how many words of each track, track 0 first (document 02, "2.7")
+  unfoldable pub trackDifferences : List ℕ → List ℕ
+  trackDifferences bytes =
+      tabulate tracks (λ k. differences (length maps) (λ g. getD (readGroup backward words maps g) k 0)
+      (λ g. getD (groupRead false (length maps) (writtenRecord bytes) g) k 0))
+
   -- and in which tracks, a map for each group: bit k is set exactly if word k differs
   unfoldable pub mapsChanged : List ℕ → List ℕ
   mapsChanged bytes =

@@ -2,12 +2,13 @@
 -- Assumes nothing.
 use Prim.Native.Nat.{ℕ, _-_, _*_}
 use mathlib.Core.Bool.{Bool, cond, not, _&&_, _||_}
-use mathlib.Core.List.{List, [], _∷_}
+use mathlib.Core.List.{List, _∷_}
 use lib.Count.{ones}
 use lib.Dec.{eqb, leb, ltb}
 use lib.ListN.{length, getD, take}
 use Rattle.indexed.specs.List.{tabulate, blocks, firstBelow, total}
 use Rattle.indexed.specs.Test.{allBelow}
+use Rattle.register.specs.Counts.{bitCounts}
 use Rattle.answer.specs.Answer.{Answer, delivered, refusedFor}
 use Rattle.answer.specs.declared.Reason.the-variants.{Length, Space, StrayBits, Padding}
 use Rattle.rectangular.specs.Constants.{tracks, numbersPerGroup, bytesPerGroup, mostMap, mostPadding, mostGroups}
@@ -78,11 +79,15 @@ module _ (backward : Bool) (words maps : List ℕ) where
   unfoldable pub changes : ℕ
   changes = total (length maps) (λ g. ones (changedTracks g))
 
+  -- and how many of each track, track 0 first (document 02, "2.7": "nine counts of changed words or characters, one an algebraic track")
+  unfoldable pub trackChanges : List ℕ
+  trackChanges = bitCounts tracks changedMaps
+
   -- the answer, once lengths, space and stray bits have passed
   unfoldable pub judgedAnswer : Answer
   judgedAnswer =
       cond (ltb firstUnfit (length maps)) (refusedFor (reasonOf (judgement firstUnfit)) firstUnfit)
-      (cond (paddingSuits readBody) (delivered (length readData ∷ changes ∷ [])) (refusedFor Padding 0))
+      (cond (paddingSuits readBody) (delivered (length readData ∷ changes ∷ trackChanges)) (refusedFor Padding 0))
 
   -- the answer over whether there is space enough, which is each call's own to say
   unfoldable pub answerIf : Bool → Answer

@@ -1,20 +1,19 @@
 -- What reading an 800 record delivers is what fits, if nothing else does (the notice, third term): a record that fits is the candidate
 -- of a track that holds, and the candidate of a track that holds fits.
 -- Assumes nothing.
-use mathlib.Core.Path.{_≡_, sym, ap, ap₂, _∙_}
-use mathlib.Core.Bool.{Bool, true, cond}
+use mathlib.Core.Path.{_≡_, refl, sym, ap, ap₂, _∙_}
+use mathlib.Core.Bool.{Bool, true, false, cond}
 use mathlib.Core.List.{List, [], _∷_}
 use Prim.Native.Nat.{ℕ, _+_, _-_, _*_, _%_, _^_, _<_}
-use native.Mathlib.Decide.{decLt}
+use native.Mathlib.Decide.{ℕ-discrete, decLt}
 use native.Mathlib.Nat.{le-of-eq, mod-lt, zero-lt-suc}
 use native.Mathlib.Omega.{arith}
-use borrow.Author.Tests.{lt-ltb, le-ltb}
+use borrow.Author.Tests.{eq-eqb, ne-eqb, lt-ltb, le-ltb}
 use lib.Dec.{eqb}
 use lib.ListN.{length, getD, List·getD-eq-default}
 use lib.Pow.{pow-pos}
 use lib.Seq.{ext-getD}
 use Rattle.answer.specs.Answer.{Answer, delivered}
-use Rattle.indexed.specs.Differ.{differences}
 use Rattle.indexed.specs.List.{tabulate, total}
 use Rattle.indexed.proofs.Below.{first-below-at, first-below-none}
 use Rattle.indexed.proofs.Tabulate.{length-tabulate, getD-tabulate, tabulate-same}
@@ -27,8 +26,8 @@ use Rattle.register.specs.Xor.{_⊕_}
 use Rattle.register.proofs.Held.{held-ext}
 use Rattle.register.proofs.Sum.{sum-ext}
 use Rattle.cyclic.specs.Constants.{feedback, offset, tracks, checks}
-use Rattle.record800.specs.Fits.{IsData, Passes, Fits, trackChanged, charactersChanged}
-use Rattle.record800.specs.Read.{picture, expectedParity, wrong, wrongCount, candidate, holds, judgedAnswer, judgedData, readData}
+use Rattle.record800.specs.Fits.{IsData, Passes, Fits, differencesIn, trackChanged, charactersChanged, trackDifferences}
+use Rattle.record800.specs.Read.{picture, trackChanges, expectedParity, wrong, wrongCount, candidate, holds, judgedAnswer, judgedData, readData}
 use Rattle.record800.specs.Record.{checkSum, writtenRecord}
 use Rattle.record800.proofs.Apart.{other-bit, change-counted, change-counted-bit, one-apart}
 use Rattle.record800.proofs.Candidate.{wrong-lt, candidate-same, candidate-written, sums-hold, tracks-apart}
@@ -97,52 +96,75 @@ module _ (backward : Bool) (characters : List ℕ) (passes : Passes backward cha
 
     -- ---- what it changes
 
-    -- in how many characters it differs in track t
-    abbrev changedIn : ℕ → ℕ
-    changedIn t = differences (length characters) (λ k. bit t (getD l k 0)) (λ k. bit t (right k))
+    -- no parity is wrong, and nothing differs
+    module _ (none-wrong : wrongCount n l ≡ 0) where
+      same : (k : ℕ) → k < length characters → getD l k 0 ≡ right k
+      same k h =
+          let b : k < n + checks = omega (arith, as-counted backward characters passes) in
+          sym (right-candidate k b ∙ candidate-same n l none-wrong (f .track) k b)
 
-    pub nothing-changed : wrongCount n l ≡ 0 → (trackChanged backward characters bytes ≡ tracks) × (charactersChanged backward characters bytes ≡ 0)
-    unfolding trackChanged charactersChanged
-    nothing-changed e =
-        let same : (k : ℕ) → k < length characters → getD l k 0 ≡ right k =
-        λ k h. let b : k < n + checks = omega (arith, as-counted backward characters passes) in
-        sym (right-candidate k b ∙ candidate-same n l e (f .track) k b) in (
-          first-below-none tracks _
-              (λ t h. le-ltb 0 (changedIn t) (le-of-eq (differences-none _ _ (length characters) (λ k b. ap (bit t) (same k b))))),
-          differences-none _ _ (length characters) same,
-        )
+      in-none : (t : ℕ) → differencesIn backward characters bytes t ≡ 0
+      unfolding differencesIn
+      in-none t = differences-none _ _ (length characters) (λ k b. ap (bit t) (same k b))
 
-    pub changed : 0 < wrongCount n l
-        → (trackChanged backward characters bytes ≡ f .track) × (charactersChanged backward characters bytes ≡ wrongCount n l)
-    unfolding trackChanged charactersChanged wrongCount candidate
-    changed some = (
-      first-below-at tracks _ (f .track) (f .is-track) (λ t h. le-ltb 0 (changedIn t) (le-of-eq (elsewhere t h)))
-          (lt-ltb 0 (changedIn (f .track)) (rw in-track some)),
-      characters-wrong,
-    )
-      where
-        counted : (k : ℕ) → k < length characters → k < n + checks
-        counted k h = omega (arith, as-counted backward characters passes)
+      pub nothing-changed : (trackChanged backward characters bytes ≡ tracks) × (charactersChanged backward characters bytes ≡ 0)
+          × (trackDifferences backward characters bytes ≡ trackChanges tracks 0)
+      unfolding trackChanged charactersChanged trackDifferences trackChanges
+      nothing-changed = (
+        first-below-none tracks _ (λ t h. le-ltb 0 (differencesIn backward characters bytes t) (le-of-eq (in-none t))),
+        differences-none _ _ (length characters) same,
+        tabulate-same tracks _ _ (λ t h. in-none t ∙ sym (either (eqb t tracks) 0)),
+      )
+        where
+          either : (b : Bool) (x : ℕ) → cond b x x ≡ x
+          either true x = refl
+          either false x = refl
 
-        elsewhere : (t : ℕ) → t < f .track → changedIn t ≡ 0
-        elsewhere t h =
-            differences-none _ _ (length characters) (λ k b. f .one-track t (omega (arith, f .is-track)) (λ q. omega arith) k b)
+    -- or some are, and then the track differs in those characters
+    module _ (some : 0 < wrongCount n l) where
+      counted : (k : ℕ) → k < length characters → k < n + checks
+      counted k h = omega (arith, as-counted backward characters passes)
 
-        in-track : changedIn (f .track) ≡ wrongCount n l
-        in-track =
-            differences-total (length characters) _ _
-            ∙ total-same (length characters) _ _
-            (λ k h. ap (λ (c : ℕ). cond (eqb (bit (f .track) (getD l k 0)) (bit (f .track) c)) 0 1) (right-candidate k (counted k h))
-            ∙ change-counted-bit (getD l k 0) (wrong n l k) (f .track) (wrong-lt n l k) (f .is-track))
-            ∙ ap (λ (m : ℕ). total m (wrong n l)) (sym (as-counted backward characters passes))
+      elsewhere : (t : ℕ) → t < tracks → (t ≡ f .track → ⊥) → differencesIn backward characters bytes t ≡ 0
+      unfolding differencesIn
+      elsewhere t h apart = differences-none _ _ (length characters) (λ k b. f .one-track t h apart k b)
 
-        characters-wrong : differences (length characters) (λ k. getD l k 0) right ≡ wrongCount n l
-        characters-wrong =
-            differences-total (length characters) _ _
-            ∙ total-same (length characters) _ _
-            (λ k h. ap (λ (c : ℕ). cond (eqb (getD l k 0) c) 0 1) (right-candidate k (counted k h))
-            ∙ change-counted (getD l k 0) (wrong n l k) (2 ^ f .track) (wrong-lt n l k) (pow-pos (f .track)))
-            ∙ ap (λ (m : ℕ). total m (wrong n l)) (sym (as-counted backward characters passes))
+      in-track : differencesIn backward characters bytes (f .track) ≡ wrongCount n l
+      unfolding differencesIn wrongCount candidate
+      in-track =
+          differences-total (length characters) _ _
+          ∙ total-same (length characters) _ _
+          (λ k h. ap (λ (c : ℕ). cond (eqb (bit (f .track) (getD l k 0)) (bit (f .track) c)) 0 1) (right-candidate k (counted k h))
+          ∙ change-counted-bit (getD l k 0) (wrong n l k) (f .track) (wrong-lt n l k) (f .is-track))
+          ∙ ap (λ (m : ℕ). total m (wrong n l)) (sym (as-counted backward characters passes))
+
+      characters-wrong : charactersChanged backward characters bytes ≡ wrongCount n l
+      unfolding charactersChanged wrongCount candidate
+      characters-wrong =
+          differences-total (length characters) _ _
+          ∙ total-same (length characters) _ _
+          (λ k h. ap (λ (c : ℕ). cond (eqb (getD l k 0) c) 0 1) (right-candidate k (counted k h))
+          ∙ change-counted (getD l k 0) (wrong n l k) (2 ^ f .track) (wrong-lt n l k) (pow-pos (f .track)))
+          ∙ ap (λ (m : ℕ). total m (wrong n l)) (sym (as-counted backward characters passes))
+
+      pub changed : (trackChanged backward characters bytes ≡ f .track) × (charactersChanged backward characters bytes ≡ wrongCount n l)
+          × (trackDifferences backward characters bytes ≡ trackChanges (f .track) (wrongCount n l))
+      unfolding trackChanged trackDifferences trackChanges
+      changed = (
+        first-below-at tracks _ (f .track) (f .is-track)
+            (λ t h. le-ltb 0 (differencesIn backward characters bytes t) (le-of-eq (elsewhere t (omega (arith, f .is-track)) (λ q. omega arith))))
+            (lt-ltb 0 (differencesIn backward characters bytes (f .track)) (rw in-track some)),
+        characters-wrong,
+        tabulate-same tracks _ _ (λ t h. by t h (ℕ-discrete t (f .track))),
+      )
+        where
+          by : (t : ℕ) → t < tracks → Dec (t ≡ f .track)
+              → differencesIn backward characters bytes t ≡ cond (eqb t (f .track)) (wrongCount n l) 0
+          by t h (yes is) =
+              ap (differencesIn backward characters bytes) is
+              ∙ in-track
+              ∙ sym (ap (λ (b : Bool). cond b (wrongCount n l) 0) (eq-eqb t (f .track) is))
+          by t h (no apart) = elsewhere t h apart ∙ sym (ap (λ (b : Bool). cond b (wrongCount n l) 0) (ne-eqb t (f .track) apart))
 
   -- ---- a candidate fits, if its track holds
 
@@ -187,32 +209,33 @@ module _ (backward : Bool) (characters : List ℕ) (passes : Passes backward cha
   -- ---- the only one that fits is delivered
 
   pub fits-delivered : (bytes : List ℕ) → FitsHere bytes → ((others : List ℕ) → FitsHere others → others ≡ bytes)
-      → (judgedAnswer n l ≡ delivered (length bytes ∷ trackChanged backward characters bytes ∷ charactersChanged backward characters bytes ∷ []))
+      → (judgedAnswer n l ≡ delivered (length bytes ∷ trackChanged backward characters bytes ∷ charactersChanged backward characters bytes ∷ trackDifferences backward characters bytes))
       × (readData backward characters ≡ bytes)
   unfolding readData
   fits-delivered bytes f only = by (judged n l)
     where
-      answer : ℕ → ℕ → ℕ → Answer
-      answer m t c = delivered (m ∷ t ∷ c ∷ [])
+      answer : ℕ → ℕ → ℕ → List ℕ → Answer
+      answer m t c each = delivered (m ∷ t ∷ c ∷ each)
 
-      told : (m t c : ℕ) → m ≡ length bytes → t ≡ trackChanged backward characters bytes → c ≡ charactersChanged backward characters bytes
-          → answer m t c ≡ answer (length bytes) (trackChanged backward characters bytes) (charactersChanged backward characters bytes)
-      told m t c p q r = ap₂ (λ (m t : ℕ). answer m t c) p q ∙ ap (answer (length bytes) (trackChanged backward characters bytes)) r
+      -- what is told is what differs
+      told : (t c : ℕ) → trackChanged backward characters bytes ≡ t → charactersChanged backward characters bytes ≡ c
+          → trackDifferences backward characters bytes ≡ trackChanges t c
+          → answer n t c (trackChanges t c) ≡ answer (length bytes) (trackChanged backward characters bytes) (charactersChanged backward characters bytes) (trackDifferences backward characters bytes)
+      told t c p q r = cc (as-many bytes f)
 
       by : Judged n l (judgedAnswer n l)
-          → (judgedAnswer n l ≡ answer (length bytes) (trackChanged backward characters bytes) (charactersChanged backward characters bytes))
+          → (judgedAnswer n l ≡ answer (length bytes) (trackChanged backward characters bytes) (charactersChanged backward characters bytes) (trackDifferences backward characters bytes))
           × (judgedData n l ≡ bytes)
-      by (clean e h a) = (
-        a ∙ told n tracks 0 (sym (as-many bytes f)) (sym (nothing-changed bytes f e .0)) (sym (nothing-changed bytes f e .1)),
-        data-first n l h ∙ only (bytesOf n l 0) (candidate-fits 0 (omega arith) h),
-      )
-      by (one some j b h alone a) = (
-        a
-            ∙ told n j (wrongCount n l) (sym (as-many bytes f))
-            (sym (changed bytes f some .0 ∙ alone (f .track) (f .is-track) (fits-candidate bytes f .1)))
-            (sym (changed bytes f some .1)),
-        data-only n l j b h alone ∙ only (bytesOf n l j) (candidate-fits j b h),
-      )
+      by (clean e h a) =
+          let none = nothing-changed bytes f e in
+          (a ∙ told tracks 0 (none .0) (none .1) (none .2), data-first n l h ∙ only (bytesOf n l 0) (candidate-fits 0 (omega arith) h))
+      by (one some j b h alone a) =
+          let is = changed bytes f some in
+          let track = alone (f .track) (f .is-track) (fits-candidate bytes f .1) in (
+            a
+                ∙ told j (wrongCount n l) (is .0 ∙ track) (is .1) (is .2 ∙ ap (λ (t : ℕ). trackChanges t (wrongCount n l)) track),
+            data-only n l j b h alone ∙ only (bytesOf n l j) (candidate-fits j b h),
+          )
       by (several some i j h b p q a) =
           absurd (bytes-apart some i j h b p q
           (only (bytesOf n l i) (candidate-fits i (omega arith) p) ∙ sym (only (bytesOf n l j) (candidate-fits j b q))))

@@ -14,15 +14,15 @@ use Rattle.indexed.specs.List.{tabulate, below, keep}
 use Rattle.indexed.proofs.Below.{first-below-at}
 use Rattle.indexed.proofs.Keep.{Kept, kept-below}
 use Rattle.cyclic.specs.Constants.{tracks}
-use Rattle.record800.specs.Read.{wrongCount, candidate, holds, oneOf, judgedAnswer, judgedData}
+use Rattle.record800.specs.Read.{figuresOf, wrongCount, candidate, holds, oneOf, judgedAnswer, judgedData}
 use Rattle.record800.proofs.Candidate.{holds-same}
 
 module _ (n : ℕ) (l : List ℕ) where
   -- no parity is wrong, and the reading is a written record; or some are, and one track holds, or several do; or none holds
   pub data Judged (answer : Answer) : Type 0 where
-    clean : wrongCount n l ≡ 0 → holds n l 0 ≡ true → answer ≡ delivered (n ∷ tracks ∷ 0 ∷ []) → Judged answer
+    clean : wrongCount n l ≡ 0 → holds n l 0 ≡ true → answer ≡ delivered (figuresOf n tracks 0) → Judged answer
     one : 0 < wrongCount n l → (j : ℕ) → j < tracks → holds n l j ≡ true → ((i : ℕ) → i < tracks → holds n l i ≡ true → i ≡ j)
-        → answer ≡ delivered (n ∷ j ∷ wrongCount n l ∷ []) → Judged answer
+        → answer ≡ delivered (figuresOf n j (wrongCount n l)) → Judged answer
     several : 0 < wrongCount n l → (i j : ℕ) → i < j → j < tracks → holds n l i ≡ true → holds n l j ≡ true → answer ≡ refused 8 0 → Judged answer
     none : ((j : ℕ) → j < tracks → holds n l j ≡ true → ⊥) → answer ≡ refused 7 0 → Judged answer
 
@@ -41,7 +41,7 @@ module _ (n : ℕ) (l : List ℕ) where
       several some i j (k .ascending 0 1 (omega arith) (omega arith)) (k .under 1 (omega arith)) (k .passes 0 (omega arith))
       (k .passes 1 (omega arith)) refl
 
-  of-clean : wrongCount n l ≡ 0 → (b : Bool) → holds n l 0 ≡ b → Judged (cond b (delivered (n ∷ tracks ∷ 0 ∷ [])) (refused 7 0))
+  of-clean : wrongCount n l ≡ 0 → (b : Bool) → holds n l 0 ≡ b → Judged (cond b (delivered (figuresOf n tracks 0)) (refused 7 0))
   of-clean e true h = clean e h refl
   of-clean e false h = none (λ j b q. true≢false (sym q ∙ holds-same n l e j ∙ h)) refl
 
@@ -50,7 +50,7 @@ module _ (n : ℕ) (l : List ℕ) where
   judged = by (eqb (wrongCount n l) 0) refl
     where
       by : (b : Bool) → eqb (wrongCount n l) 0 ≡ b
-          → Judged (cond b (cond (holds n l 0) (delivered (n ∷ tracks ∷ 0 ∷ [])) (refused 7 0)) (oneOf n l (keep (holds n l) (below tracks))))
+          → Judged (cond b (cond (holds n l 0) (delivered (figuresOf n tracks 0)) (refused 7 0)) (oneOf n l (keep (holds n l) (below tracks))))
       by true e = of-clean (eqb-true _ _ e) (holds n l 0) refl
       by false e =
           let apart = eqb-false (wrongCount n l) 0 e in

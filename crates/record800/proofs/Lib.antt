@@ -8,3 +8,4 @@ pub mod Fitting
 pub mod Refused
 pub mod Undamaged
 pub mod Backward
+pub mod Counted

@@ -3,16 +3,17 @@
 -- Assumes nothing.
 use mathlib.Core.Path.{_≡_, sym, ap, ap₂, _∙_}
 use mathlib.Core.Bool.{Bool, true, false, _&&_}
-use mathlib.Core.List.{List, [], _∷_}
+use mathlib.Core.List.{List, _∷_}
 use Prim.Native.Nat.{ℕ, _+_, _-_, _≤_}
 use native.Mathlib.Omega.{arith}
 use borrow.Author.Tests.{le-leb, le-ltb}
 use lib.Bits.{xor-self}
 use lib.Dec.{ltb}
-use lib.ListN.{length, getD}
+use lib.ListN.{length, getD, replicate}
 use lib.Seq.{ext-getD}
 use Rattle.answer.specs.Answer.{delivered}
 use Rattle.slices.specs.Above.{firstAbove}
+use Rattle.indexed.specs.List.{tabulate, tabulateFrom}
 use Rattle.indexed.proofs.Differ.{equal-of-no-differences}
 use Rattle.indexed.proofs.First.{first-none}
 use Rattle.register.specs.Bit.{bit}
@@ -20,7 +21,7 @@ use Rattle.register.specs.Parity.{parity}
 use Rattle.register.specs.Xor.{_⊕_}
 use Rattle.cyclic.specs.Constants.{mostCharacter, leastData, mostData, checks, tracks}
 use Rattle.record800.specs.Fits.{IsData, Passes, Fits, charactersChanged}
-use Rattle.record800.specs.Read.{picture, expectedParity, wrong, wrongCount, judgedAnswer, readData, answerIf, readAnswer, lengthSuits, firstStray}
+use Rattle.record800.specs.Read.{picture, trackChanges, figuresOf, expectedParity, wrong, wrongCount, judgedAnswer, readData, answerIf, readAnswer, lengthSuits, firstStray}
 use Rattle.record800.specs.Record.{writtenRecord}
 use Rattle.record800.proofs.Answer.{passed-judged}
 use Rattle.indexed.proofs.Total.{total-none}
@@ -78,11 +79,11 @@ module _ (bytes : List ℕ) (is-data : IsData bytes) where
       ∙ ap (λ (m : ℕ). expectedParity m l k) many)
       ∙ xor-self (expectedParity n l k))
 
-  delivered-clean : judgedAnswer n l ≡ delivered (length bytes ∷ tracks ∷ 0 ∷ [])
+  delivered-clean : judgedAnswer n l ≡ delivered (figuresOf (length bytes) tracks 0)
   delivered-clean = by (judged n l)
     where
-      by : Judged n l (judgedAnswer n l) → judgedAnswer n l ≡ delivered (length bytes ∷ tracks ∷ 0 ∷ [])
-      by (clean w h a) = let many : n ≡ length bytes = omega (arith, long) in a ∙ ap (λ (m : ℕ). delivered (m ∷ tracks ∷ 0 ∷ [])) many
+      by : Judged n l (judgedAnswer n l) → judgedAnswer n l ≡ delivered (figuresOf (length bytes) tracks 0)
+      by (clean w h a) = let many : n ≡ length bytes = omega (arith, long) in a ∙ ap (λ (m : ℕ). delivered (figuresOf m tracks 0)) many
       by (one some j b h alone a) = absurd (omega (arith, none-wrong))
       by (several some i j h b r q a) = absurd (omega (arith, none-wrong))
       by (none nothing a) =
@@ -96,11 +97,12 @@ module _ (bytes : List ℕ) (is-data : IsData bytes) where
   pub undamaged-data : readData false characters ≡ bytes
   undamaged-data = fits-delivered false characters passes bytes itself-fits only-itself .1
 
-  pub undamaged-if : (enough : Bool) → enough ≡ true → answerIf false characters enough ≡ delivered (length bytes ∷ tracks ∷ 0 ∷ [])
+  pub undamaged-if : (enough : Bool) → enough ≡ true → answerIf false characters enough ≡ delivered (length bytes ∷ tracks ∷ 0 ∷ replicate tracks 0)
+  unfolding trackChanges tabulate tabulateFrom
   undamaged-if enough some = passed-judged false characters enough passes some ∙ delivered-clean
 
   pub undamaged-answer : (space : ℕ) → length characters - checks ≤ space
-      → readAnswer false characters space ≡ delivered (length bytes ∷ tracks ∷ 0 ∷ [])
+      → readAnswer false characters space ≡ delivered (length bytes ∷ tracks ∷ 0 ∷ replicate tracks 0)
   unfolding readAnswer
   undamaged-answer space enough = undamaged-if _ (le-leb _ _ enough)
 

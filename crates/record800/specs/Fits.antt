@@ -7,7 +7,7 @@ use Prim.Native.Nat.{ℕ, _+_, _<_, _≤_}
 use lib.Dec.{ltb}
 use lib.ListN.{length, getD}
 use Rattle.indexed.specs.Differ.{differences}
-use Rattle.indexed.specs.List.{firstBelow}
+use Rattle.indexed.specs.List.{tabulate, firstBelow}
 use Rattle.register.specs.Bit.{bit}
 use Rattle.cyclic.specs.Constants.{tracks, leastData, mostData, checks}
 use Rattle.record800.specs.Read.{picture, lengthSuits, firstStray}
@@ -35,12 +35,18 @@ module _ (backward : Bool) (characters : List ℕ) where
     pub one-track : (t : ℕ) → t < tracks → (t ≡ track → ⊥) → (k : ℕ) → k < length characters
         → bit t (getD (picture backward characters) k 0) ≡ bit t (getD (writtenRecord bytes) k 0)
 
-  -- the track in which the reading's forward picture differs from the written record, or 9, and in how many characters it does
+  -- in how many characters track t of the reading's forward picture differs from the written record
+  unfoldable pub differencesIn : List ℕ → ℕ → ℕ
+  differencesIn bytes t =
+      differences (length characters) (λ k. bit t (getD (picture backward characters) k 0)) (λ k. bit t (getD (writtenRecord bytes) k 0))
+
+  -- the track that differs, or 9, and in how many characters the picture does; and this for each track, track 0 first (document 02, "2.7")
   unfoldable pub trackChanged : List ℕ → ℕ
-  trackChanged bytes =
-      firstBelow tracks (λ t. ltb 0
-      (differences (length characters) (λ k. bit t (getD (picture backward characters) k 0)) (λ k. bit t (getD (writtenRecord bytes) k 0))))
+  trackChanged bytes = firstBelow tracks (λ t. ltb 0 (differencesIn bytes t))
 
   unfoldable pub charactersChanged : List ℕ → ℕ
   charactersChanged bytes =
       differences (length characters) (λ k. getD (picture backward characters) k 0) (λ k. getD (writtenRecord bytes) k 0)
+
+  unfoldable pub trackDifferences : List ℕ → List ℕ
+  trackDifferences bytes = tabulate tracks (differencesIn bytes)

@@ -21,6 +21,14 @@ use Rattle.record800.specs.Record.{checkSum}
 unfoldable pub picture : Bool → List ℕ → List ℕ
 picture backward characters = tabulate (length characters) (λ k. getD characters (turnedPlace backward (length characters) k) 0)
 
+-- what a delivery tells: n, the corrected track, how many characters differ, and how many in each track, track 0 first (document 02, "2.7":
+-- "For 800 only the mended track's count can be above zero")
+unfoldable pub trackChanges : ℕ → ℕ → List ℕ
+trackChanges track changes = tabulate tracks (λ t. cond (eqb t track) changes 0)
+
+abbrev pub figuresOf : ℕ → ℕ → ℕ → List ℕ
+figuresOf n track changes = n ∷ track ∷ changes ∷ trackChanges track changes
+
 -- of n data characters, the check character and the longitudinal one
 module _ (n : ℕ) (characters : List ℕ) where
   -- The parity that a written character has: odd, but for the check character, at place n, which has even parity if n is odd.
@@ -59,13 +67,13 @@ module _ (n : ℕ) (characters : List ℕ) where
   -- by the tracks of which the candidate is a written record
   unfoldable pub oneOf : List ℕ → Answer
   oneOf [] = refusedFor NoRecord 0
-  oneOf (j ∷ []) = delivered (n ∷ j ∷ wrongCount ∷ [])
+  oneOf (j ∷ []) = delivered (figuresOf n j wrongCount)
   oneOf (i ∷ j ∷ more) = refusedFor SeveralRecords 0
 
   -- with no wrong parity the nine candidates are the reading itself, and 9 is told for the track; otherwise they are nine different ones
   unfoldable pub judgedAnswer : Answer
   judgedAnswer =
-      cond (eqb wrongCount 0) (cond (holds 0) (delivered (n ∷ tracks ∷ 0 ∷ [])) (refusedFor NoRecord 0)) (oneOf (keep holds (below tracks)))
+      cond (eqb wrongCount 0) (cond (holds 0) (delivered (figuresOf n tracks 0)) (refusedFor NoRecord 0)) (oneOf (keep holds (below tracks)))
 
   unfoldable pub judgedData : List ℕ
   judgedData = tabulate n (λ k. candidate (firstBelow tracks holds) k % 256)

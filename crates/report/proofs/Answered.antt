@@ -2,7 +2,7 @@
 -- Assumes nothing.
 use Prim.Native.Nat.{ℕ, _≤_}
 use mathlib.Core.Path.{_≡_, sym, ap, _∙_}
-use mathlib.Core.List.{List, []}
+use mathlib.Core.List.{List}
 use lib.ListN.{length, take, drop}
 use lib.Seq.{take-at}
 use Rattle.answer.specs.Answer.{Answer, delivered, numberOf, outputAfter}
@@ -15,6 +15,8 @@ use Rattle.log_reader.specs.Told.{toldBack}
 use Rattle.log_reader.specs.declared.ReadBack.{ReadBack}
 use Rattle.log_reader.specs.declared.ReadBack.the-variants.{Delivered, Refused}
 use Rattle.page.specs.Page.{Printed}
+use Rattle.track_counts.specs.Counts.{countsTold}
+use Rattle.track_counts.specs.declared.Counts.{Counts}
 use Rattle.sense_log.specs.Back.{mapsOf, readLogAnswer}
 use Rattle.report.specs.Made.{LogPut}
 use Rattle.report.specs.Report.{mapsLent, mostMarks, answerOf, marksOf}
@@ -22,19 +24,19 @@ use Rattle.report.specs.declared.line.Line.the-variants.{Last}
 
 module _ (groups : ℕ) (log : List ℕ) where
   -- a delivery has space for its maps, and its marks are few
-  module _ (is : answerOf groups log ≡ delivered []) where
+  module _ (figures : List ℕ) (is : answerOf groups log ≡ delivered figures) where
     pub maps-fit : groups ≤ mapsLent
-    maps-fit = back-delivered groups log mapsLent [] is .0
+    maps-fit = back-delivered groups log mapsLent figures is .0
 
     pub marks-few : marksOf groups log ≤ mostMarks
-    marks-few = most-marks groups log mapsLent [] is
+    marks-few = most-marks groups log mapsLent figures is
 
   module _ (space : ℕ) (r : ReadBack) (told : toldBack r ≡ readLogAnswer groups log space) (lent : space ≡ mapsLent) where
     answered : toldBack r ≡ answerOf groups log
     answered = told ∙ ap (readLogAnswer groups log) lent
 
-    pub is-delivered : r ≡ Delivered → answerOf groups log ≡ delivered []
-    is-delivered e = sym answered ∙ ap toldBack e
+    pub is-delivered : (marks : Counts) → r ≡ Delivered marks → answerOf groups log ≡ delivered (countsTold marks)
+    is-delivered marks e = sym answered ∙ ap toldBack e
 
     -- the line of a refusal is the last
     pub refusal-put : (refusal : Refusal) → r ≡ Refused refusal → (total held held' : ℕ) (page page' : List ℕ)
@@ -42,8 +44,8 @@ module _ (groups : ℕ) (log : List ℕ) where
     refusal-put refusal e total held held' page page' put = (numberOf (refusal .reason), refusal .place, sym answered ∙ ap toldBack e, put)
 
     -- the maps of the groups stand at the front
-    pub maps-in-front : r ≡ Delivered → (before after : List ℕ) → after ≡ outputAfter (toldBack r) (mapsOf groups log) before → take groups after ≡ mapsOf groups log
+    pub maps-in-front : (marks : Counts) → r ≡ Delivered marks → (before after : List ℕ) → after ≡ outputAfter (toldBack r) (mapsOf groups log) before → take groups after ≡ mapsOf groups log
     unfolding outputAfter
-    maps-in-front e before after stored =
+    maps-in-front marks e before after stored =
         ap (take groups) (stored ∙ ap (λ (a : Answer). outputAfter a (mapsOf groups log) before) (ap toldBack e))
         ∙ take-at (mapsOf groups log) (drop (length (mapsOf groups log)) before) groups (length-mapsOf groups log)

@@ -56,8 +56,8 @@ module _ (heading log : List ℕ) (whole : length heading ≡ headingLength) (al
         ∙ ap₂ (text groups) same-log same-rest)
 
   -- its line, and the report goes on; or it is the last
-  marks-lines : (total total' : ℕ) → answerOf groups log ≡ delivered [] → total' ≡ total + marksOf groups log → Lines 1 total (heading ++ log) (countText (marksOf groups log)) total'
-  marks-lines total total' is sum more rest =
+  marks-lines : (total total' : ℕ) (figures : List ℕ) → answerOf groups log ≡ delivered figures → total' ≡ total + marksOf groups log → Lines 1 total (heading ++ log) (countText (marksOf groups log)) total'
+  marks-lines total total' figures is sum more rest =
       ap (λ (n : ℕ). reportFrom n total (heading ++ log ++ rest)) (one-add more)
       ∙ next-log rest more total
       ∙ ap₂ (λ (a : Answer) (t : ℕ). logText a (marksOf groups log) (reportFrom more t rest)) is (sym sum)
@@ -73,9 +73,9 @@ module _ (heading log : List ℕ) (whole : length heading ≡ headingLength) (al
     next = heading ++ log;
     some = omega (arith, length-append heading log);
     count = marksOf groups log;
-    few = marks-few groups log (put .0);
+    few = marks-few groups log (put .0 .0) (put .0 .1);
     sum = put .1;
-    lines = marks-lines total (s .total) (put .0) (put .1);
+    lines = marks-lines total (s .total) (put .0 .0) (put .0 .1) (put .1);
     put = put .2;
   }
   log-put total held page page' (Last end) put = record {

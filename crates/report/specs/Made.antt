@@ -30,7 +30,7 @@ use Rattle.report.specs.declared.whole.Report.{Report}
 -- line.
 abbrev pub LogPut : ℕ → List ℕ → ℕ → List ℕ → ℕ → List ℕ → Line → Type 0
 LogPut groups log total page held page' (Marks s) =
-    (answerOf groups log ≡ delivered []) × (s .total ≡ total + marksOf groups log) × Printed (countText (marksOf groups log)) page held page' (s .held)
+    ((figures : List ℕ) × (answerOf groups log ≡ delivered figures)) × (s .total ≡ total + marksOf groups log) × Printed (countText (marksOf groups log)) page held page' (s .held)
 LogPut groups log total page held page' (Last end) =
     (number : ℕ) × (place : ℕ) × (answerOf groups log ≡ refused number place) × Printed (refusalText number place) page held page' end
 LogPut groups log total page held page' (Unread number) = ⊥

@@ -80,7 +80,7 @@ fn put_log(
     ensures { λ r. ⌜ LogPut groups (now (log .entry)) total (now (page .entry)) held (now (page .exit)) r ⌝ }
 {
     match read_log(groups, log, maps) {
-        ReadBack::Delivered => {
+        ReadBack::Delivered(_) => {
             let count = count_marks(&maps[..groups]);
             let sum = total + count;
             Line::Marks(Standing {

@@ -1,6 +1,7 @@
 // Records at 800 for C.
 use crate::refused_status;
 use crate::written_status;
+use cyclic::Code800;
 use reader800::Read;
 ghost use mathlib.Core.Bool.{true, false};
 ghost use mathlib.Core.List.{[], _∷_};
@@ -22,7 +23,8 @@ pub extern "C" fn rindthok_write800(
     written_status(writer800::write(bytes, characters), count, place)
 }
 
-// Reads an 800 record forward, and stores the data's length, the corrected track and the changed characters.
+// Reads an 800 record forward, and stores the data's length, the corrected track, the number of changed characters, and that
+// of each track.
 #[no_mangle]
 pub extern "C" fn rindthok_read800_forward(
     characters: &[u16],
@@ -30,11 +32,21 @@ pub extern "C" fn rindthok_read800_forward(
     size: &mut usize,
     track: &mut usize,
     changes: &mut usize,
+    counts: &mut [usize; Code800::TRACKS],
     place: &mut usize,
 ) -> u16
-    ensures { λ r. ⌜ Called (Call.read (at800 false (now (characters .entry)))) (now (output .entry)) (now (output .exit)) (now (size .entry) ∷ now (track .entry) ∷ now (changes .entry) ∷ []) (now (size .exit) ∷ now (track .exit) ∷ now (changes .exit) ∷ []) r (now (place .exit)) ⌝ }
+    ensures { λ r. ⌜ Called (Call.read (at800 false (now (characters .entry)))) (now (output .entry)) (now (output .exit)) (now (size .entry) ∷ now (track .entry) ∷ now (changes .entry) ∷ now (counts .entry)) (now (size .exit) ∷ now (track .exit) ∷ now (changes .exit) ∷ now (counts .exit)) r (now (place .exit)) ⌝ }
 {
-    read_record(characters, false, output, size, track, changes, place)
+    read_record(
+        characters,
+        false,
+        output,
+        size,
+        track,
+        changes,
+        counts,
+        place,
+    )
 }
 
 // Reads an 800 record backward, and stores the same.
@@ -45,11 +57,21 @@ pub extern "C" fn rindthok_read800_backward(
     size: &mut usize,
     track: &mut usize,
     changes: &mut usize,
+    counts: &mut [usize; Code800::TRACKS],
     place: &mut usize,
 ) -> u16
-    ensures { λ r. ⌜ Called (Call.read (at800 true (now (characters .entry)))) (now (output .entry)) (now (output .exit)) (now (size .entry) ∷ now (track .entry) ∷ now (changes .entry) ∷ []) (now (size .exit) ∷ now (track .exit) ∷ now (changes .exit) ∷ []) r (now (place .exit)) ⌝ }
+    ensures { λ r. ⌜ Called (Call.read (at800 true (now (characters .entry)))) (now (output .entry)) (now (output .exit)) (now (size .entry) ∷ now (track .entry) ∷ now (changes .entry) ∷ now (counts .entry)) (now (size .exit) ∷ now (track .exit) ∷ now (changes .exit) ∷ now (counts .exit)) r (now (place .exit)) ⌝ }
 {
-    read_record(characters, true, output, size, track, changes, place)
+    read_record(
+        characters,
+        true,
+        output,
+        size,
+        track,
+        changes,
+        counts,
+        place,
+    )
 }
 
 // Reads an 800 record in a direction.
@@ -60,12 +82,13 @@ fn read_record(
     size: &mut usize,
     track: &mut usize,
     changes: &mut usize,
+    counts: &mut [usize; Code800::TRACKS],
     place: &mut usize,
 ) -> u16
-    ensures { λ r. ⌜ Called (Call.read (at800 backward (now (characters .entry)))) (now (output .entry)) (now (output .exit)) (now (size .entry) ∷ now (track .entry) ∷ now (changes .entry) ∷ []) (now (size .exit) ∷ now (track .exit) ∷ now (changes .exit) ∷ []) r (now (place .exit)) ⌝ }
+    ensures { λ r. ⌜ Called (Call.read (at800 backward (now (characters .entry)))) (now (output .entry)) (now (output .exit)) (now (size .entry) ∷ now (track .entry) ∷ now (changes .entry) ∷ now (counts .entry)) (now (size .exit) ∷ now (track .exit) ∷ now (changes .exit) ∷ now (counts .exit)) r (now (place .exit)) ⌝ }
 {
     let answer = reader800::read_record(characters, backward, output);
-    read_status(answer, size, track, changes, place)
+    read_status(answer, size, track, changes, counts, place)
 }
 
 // The answer for a reading as numbers.
@@ -74,15 +97,17 @@ pub(crate) fn read_status(
     size: &mut usize,
     track: &mut usize,
     changes: &mut usize,
+    counts: &mut [usize; Code800::TRACKS],
     place: &mut usize,
 ) -> u16
-    ensures { λ r. ⌜ Told (toldRead answer) (now (size .entry) ∷ now (track .entry) ∷ now (changes .entry) ∷ []) (now (size .exit) ∷ now (track .exit) ∷ now (changes .exit) ∷ []) r (now (place .exit)) ⌝ }
+    ensures { λ r. ⌜ Told (toldRead answer) (now (size .entry) ∷ now (track .entry) ∷ now (changes .entry) ∷ now (counts .entry)) (now (size .exit) ∷ now (track .exit) ∷ now (changes .exit) ∷ now (counts .exit)) r (now (place .exit)) ⌝ }
 {
     match answer {
         Read::Delivered(figures) => {
             *size = figures.length;
             *track = figures.track;
             *changes = figures.changes;
+            *counts = figures.counts();
             *place = 0;
             0
         }

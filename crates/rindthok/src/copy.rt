@@ -2,9 +2,10 @@
 use crate::at800::read_status;
 use crate::refused_status;
 use copier800::Copied;
+use cyclic::Code800;
 use reader800::Read;
 ghost use mathlib.Core.Bool.{true, false};
-ghost use mathlib.Core.List.{[], _∷_};
+ghost use mathlib.Core.List.{[], _∷_, _++_};
 ghost use Rattle.copier800.specs.Told.{toldCopied};
 ghost use Rattle.terms.specs.Call as Call;
 ghost use Rattle.rindthok.specs.Called.{Told, Called};
@@ -17,10 +18,11 @@ pub extern "C" fn rindthok_copy800_forward(
     size: &mut usize,
     track: &mut usize,
     changes: &mut usize,
+    counts: &mut [usize; Code800::TRACKS],
     groups: &mut usize,
     place: &mut usize,
 ) -> u16
-    ensures { λ r. ⌜ Called (Call.copy false (now (characters .entry))) (now (words .entry)) (now (words .exit)) (now (size .entry) ∷ now (track .entry) ∷ now (changes .entry) ∷ now (groups .entry) ∷ []) (now (size .exit) ∷ now (track .exit) ∷ now (changes .exit) ∷ now (groups .exit) ∷ []) r (now (place .exit)) ⌝ }
+    ensures { λ r. ⌜ Called (Call.copy false (now (characters .entry))) (now (words .entry)) (now (words .exit)) (now (size .entry) ∷ now (track .entry) ∷ now (changes .entry) ∷ now (counts .entry) ++ (now (groups .entry) ∷ [])) (now (size .exit) ∷ now (track .exit) ∷ now (changes .exit) ∷ now (counts .exit) ++ (now (groups .exit) ∷ [])) r (now (place .exit)) ⌝ }
 {
     copy_record(
         characters,
@@ -29,6 +31,7 @@ pub extern "C" fn rindthok_copy800_forward(
         size,
         track,
         changes,
+        counts,
         groups,
         place,
     )
@@ -42,12 +45,23 @@ pub extern "C" fn rindthok_copy800_backward(
     size: &mut usize,
     track: &mut usize,
     changes: &mut usize,
+    counts: &mut [usize; Code800::TRACKS],
     groups: &mut usize,
     place: &mut usize,
 ) -> u16
-    ensures { λ r. ⌜ Called (Call.copy true (now (characters .entry))) (now (words .entry)) (now (words .exit)) (now (size .entry) ∷ now (track .entry) ∷ now (changes .entry) ∷ now (groups .entry) ∷ []) (now (size .exit) ∷ now (track .exit) ∷ now (changes .exit) ∷ now (groups .exit) ∷ []) r (now (place .exit)) ⌝ }
+    ensures { λ r. ⌜ Called (Call.copy true (now (characters .entry))) (now (words .entry)) (now (words .exit)) (now (size .entry) ∷ now (track .entry) ∷ now (changes .entry) ∷ now (counts .entry) ++ (now (groups .entry) ∷ [])) (now (size .exit) ∷ now (track .exit) ∷ now (changes .exit) ∷ now (counts .exit) ++ (now (groups .exit) ∷ [])) r (now (place .exit)) ⌝ }
 {
-    copy_record(characters, true, words, size, track, changes, groups, place)
+    copy_record(
+        characters,
+        true,
+        words,
+        size,
+        track,
+        changes,
+        counts,
+        groups,
+        place,
+    )
 }
 
 // Copies an 800 record that was read in a direction.
@@ -58,13 +72,14 @@ fn copy_record(
     size: &mut usize,
     track: &mut usize,
     changes: &mut usize,
+    counts: &mut [usize; Code800::TRACKS],
     groups: &mut usize,
     place: &mut usize,
 ) -> u16
-    ensures { λ r. ⌜ Called (Call.copy backward (now (characters .entry))) (now (words .entry)) (now (words .exit)) (now (size .entry) ∷ now (track .entry) ∷ now (changes .entry) ∷ now (groups .entry) ∷ []) (now (size .exit) ∷ now (track .exit) ∷ now (changes .exit) ∷ now (groups .exit) ∷ []) r (now (place .exit)) ⌝ }
+    ensures { λ r. ⌜ Called (Call.copy backward (now (characters .entry))) (now (words .entry)) (now (words .exit)) (now (size .entry) ∷ now (track .entry) ∷ now (changes .entry) ∷ now (counts .entry) ++ (now (groups .entry) ∷ [])) (now (size .exit) ∷ now (track .exit) ∷ now (changes .exit) ∷ now (counts .exit) ++ (now (groups .exit) ∷ [])) r (now (place .exit)) ⌝ }
 {
     let answer = copier800::copy_record(characters, backward, words);
-    copied_status(answer, size, track, changes, groups, place)
+    copied_status(answer, size, track, changes, counts, groups, place)
 }
 
 // The answer for a copy as numbers: the figures of the reading are stored as a reader's are.
@@ -73,15 +88,23 @@ fn copied_status(
     size: &mut usize,
     track: &mut usize,
     changes: &mut usize,
+    counts: &mut [usize; Code800::TRACKS],
     groups: &mut usize,
     place: &mut usize,
 ) -> u16
-    ensures { λ r. ⌜ Told (toldCopied answer) (now (size .entry) ∷ now (track .entry) ∷ now (changes .entry) ∷ now (groups .entry) ∷ []) (now (size .exit) ∷ now (track .exit) ∷ now (changes .exit) ∷ now (groups .exit) ∷ []) r (now (place .exit)) ⌝ }
+    ensures { λ r. ⌜ Told (toldCopied answer) (now (size .entry) ∷ now (track .entry) ∷ now (changes .entry) ∷ now (counts .entry) ++ (now (groups .entry) ∷ [])) (now (size .exit) ∷ now (track .exit) ∷ now (changes .exit) ∷ now (counts .exit) ++ (now (groups .exit) ∷ [])) r (now (place .exit)) ⌝ }
 {
     match answer {
         Copied::Delivered(figures, number) => {
             *groups = number;
-            read_status(Read::Delivered(figures), size, track, changes, place)
+            read_status(
+                Read::Delivered(figures),
+                size,
+                track,
+                changes,
+                counts,
+                place,
+            )
         }
         Copied::Refused(refusal) => refused_status(refusal, place),
     }

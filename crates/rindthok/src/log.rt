@@ -4,6 +4,7 @@ use crate::written_status;
 use group_code::backward_readings;
 use group_code::forward_readings;
 use log_reader::ReadBack;
+use rectangular::Code6250;
 ghost use mathlib.Core.Bool.{true, false};
 ghost use mathlib.Core.List.{[], _∷_};
 ghost use mathlib.Core.Path.{_≡_};
@@ -59,25 +60,27 @@ fn write_log(
     written_status(answer, length, place)
 }
 
-// Reads a log back with its group count: a delivery stores the maps and no figure.
+// Reads a log back with its group count: a delivery stores the maps and the marks of each track.
 #[no_mangle]
 pub extern "C" fn rindthok_read_log(
     groups: usize,
     log: &[u8],
     maps: &mut [u16],
+    counts: &mut [usize; Code6250::TRACKS],
     place: &mut usize,
 ) -> u16
-    ensures { λ r. ⌜ Called (Call.readLog groups (now (log .entry))) (now (maps .entry)) (now (maps .exit)) [] [] r (now (place .exit)) ⌝ }
+    ensures { λ r. ⌜ Called (Call.readLog groups (now (log .entry))) (now (maps .entry)) (now (maps .exit)) (now (counts .entry)) (now (counts .exit)) r (now (place .exit)) ⌝ }
 {
-    back_status(log_reader::read_log(groups, log, maps), place)
+    back_status(log_reader::read_log(groups, log, maps), counts, place)
 }
 
 // The answer for a log that is read back as numbers.
-fn back_status(answer: ReadBack, place: &mut usize) -> u16
-    ensures { λ r. ⌜ Told (toldBack answer) [] [] r (now (place .exit)) ⌝ }
+fn back_status(answer: ReadBack, counts: &mut [usize; Code6250::TRACKS], place: &mut usize) -> u16
+    ensures { λ r. ⌜ Told (toldBack answer) (now (counts .entry)) (now (counts .exit)) r (now (place .exit)) ⌝ }
 {
     match answer {
-        ReadBack::Delivered => {
+        ReadBack::Delivered(marks) => {
+            *counts = marks.numbers();
             *place = 0;
             0
         }

@@ -2,7 +2,7 @@
 -- Assumes nothing.
 use mathlib.Core.Path.{_≡_, refl, sym, ap, ap₂, _∙_}
 use mathlib.Core.Bool.{Bool, true, false, cond, not}
-use mathlib.Core.List.{List, [], _∷_, _++_}
+use mathlib.Core.List.{List, _∷_, _++_}
 use Prim.Native.Nat.{ℕ, _-_, _*_, _<_, _≤_}
 use native.Mathlib.Nat.{mul-comm, le-refl}
 use native.Mathlib.Omega.{arith}
@@ -15,7 +15,7 @@ use Rattle.indexed.proofs.Below.{first-below-le}
 use Rattle.indexed.proofs.Blocks.{length-blocks}
 use Rattle.answer.specs.Answer.{Answer, delivered, refused, refusedFor}
 use Rattle.record6250.specs.Group.{isCorrected, reasonOf}
-use Rattle.record6250.specs.Read.{lastByte, paddingSuits, unpadded, judgement, firstStray, firstUnfit, readBody, readData, changes, judgedAnswer}
+use Rattle.record6250.specs.Read.{lastByte, paddingSuits, unpadded, judgement, firstStray, firstUnfit, readBody, readData, changes, trackChanges, judgedAnswer}
 use Rattle.scan6250.specs.Told.{groupsAnswer, paddingAnswer, reached, bytesGathered, mapsGathered}
 use Rattle.record6250.proofs.FittingGroup.{length-rightBytes}
 use Rattle.record6250.proofs.Padding.{last-le}
@@ -42,16 +42,16 @@ module _ (body : List ℕ) (size : ℕ) (long : 7 ≤ size) (within : size ≤ l
   pub data-long : length (unpadded bytes) ≡ size - 1 - getD body (size - 1) 0
   data-long = ap length data-is ∙ length-take-le (size - 1 - getD body (size - 1) 0) body (omega arith)
 
-  module _ (changed : ℕ) where
-    pub suits-answer : paddingSuits bytes ≡ true → delivered ((size - 1 - getD body (size - 1) 0) ∷ changed ∷ []) ≡ paddingAnswer bytes changed
+  module _ (changed : List ℕ) where
+    pub suits-answer : paddingSuits bytes ≡ true → delivered ((size - 1 - getD body (size - 1) 0) ∷ changed) ≡ paddingAnswer bytes changed
     unfolding paddingAnswer
     suits-answer e =
-        ap (λ (n : ℕ). delivered (n ∷ changed ∷ [])) (sym data-long)
-        ∙ sym (ap (λ (b : Bool). cond b (delivered (length (unpadded bytes) ∷ changed ∷ [])) (refused 6 0)) e)
+        ap (λ (n : ℕ). delivered (n ∷ changed)) (sym data-long)
+        ∙ sym (ap (λ (b : Bool). cond b (delivered (length (unpadded bytes) ∷ changed)) (refused 6 0)) e)
 
     pub padding-answer : paddingSuits bytes ≡ false → refused 6 0 ≡ paddingAnswer bytes changed
     unfolding paddingAnswer
-    padding-answer e = sym (ap (λ (b : Bool). cond b (delivered (length (unpadded bytes) ∷ changed ∷ [])) (refused 6 0)) e)
+    padding-answer e = sym (ap (λ (b : Bool). cond b (delivered (length (unpadded bytes) ∷ changed)) (refused 6 0)) e)
 
   pub last-six : paddingSuits bytes ≡ true → getD body (size - 1) 0 ≤ 6
   last-six e = rw (← last-is) (last-le bytes e)
@@ -65,12 +65,13 @@ module _ (backward : Bool) (words maps : List ℕ) where
   abbrev refusal : Answer
   refusal = refusedFor (reasonOf (judgement backward words maps unfit)) unfit
 
-  pub groups-fit : (n : ℕ) → delivered (n ∷ []) ≡ groupsAnswer backward words maps → (unfit ≡ length maps) × (n ≡ changes backward words maps)
+  pub groups-fit : (changed : List ℕ) → delivered changed ≡ groupsAnswer backward words maps
+      → (unfit ≡ length maps) × (changed ≡ changes backward words maps ∷ trackChanges backward words maps)
   unfolding groupsAnswer firstUnfit
-  groups-fit n = by (ltb unfit (length maps)) refl
+  groups-fit changed = by (ltb unfit (length maps)) refl
     where
-      by : (b : Bool) → ltb unfit (length maps) ≡ b → delivered (n ∷ []) ≡ cond b refusal (delivered (changes backward words maps ∷ []))
-          → (unfit ≡ length maps) × (n ≡ changes backward words maps)
+      by : (b : Bool) → ltb unfit (length maps) ≡ b → delivered changed ≡ cond b refusal (delivered (changes backward words maps ∷ trackChanges backward words maps))
+          → (unfit ≡ length maps) × (changed ≡ changes backward words maps ∷ trackChanges backward words maps)
       by true e q = absurd (not-both _ _ _ q)
       by false e q = (omega (arith, ltb-false unfit (length maps) e, first-below-le (length maps) (λ g. not (isCorrected (judgement backward words maps g)))), cc)
 
@@ -79,17 +80,20 @@ module _ (backward : Bool) (words maps : List ℕ) where
   groups-unfit n p = by (ltb unfit (length maps)) refl
     where
       rest : Answer
-      rest = cond (paddingSuits (readBody backward words maps)) (delivered (length (readData backward words maps) ∷ changes backward words maps ∷ [])) (refused 6 0)
+      rest = cond (paddingSuits (readBody backward words maps)) (delivered (length (readData backward words maps) ∷ changes backward words maps ∷ trackChanges backward words maps)) (refused 6 0)
 
-      by : (b : Bool) → ltb unfit (length maps) ≡ b → refused n p ≡ cond b refusal (delivered (changes backward words maps ∷ []))
-          → refused n p ≡ cond b refusal (cond (paddingSuits (readBody backward words maps)) (delivered (length (readData backward words maps) ∷ changes backward words maps ∷ [])) (refused 6 0))
+      by : (b : Bool) → ltb unfit (length maps) ≡ b → refused n p ≡ cond b refusal (delivered (changes backward words maps ∷ trackChanges backward words maps))
+          → refused n p ≡ cond b refusal (cond (paddingSuits (readBody backward words maps)) (delivered (length (readData backward words maps) ∷ changes backward words maps ∷ trackChanges backward words maps)) (refused 6 0))
       by true e q = q
       by false e q = absurd (not-both _ n p (sym q))
 
-  pub fit-answer : unfit ≡ length maps → paddingAnswer (readBody backward words maps) (changes backward words maps) ≡ judgedAnswer backward words maps
+  abbrev changed : List ℕ
+  changed = changes backward words maps ∷ trackChanges backward words maps
+
+  pub fit-answer : unfit ≡ length maps → paddingAnswer (readBody backward words maps) changed ≡ judgedAnswer backward words maps
   unfolding judgedAnswer paddingAnswer readData
   fit-answer e =
-      sym (ap (λ (b : Bool). cond b refusal (paddingAnswer (readBody backward words maps) (changes backward words maps)))
+      sym (ap (λ (b : Bool). cond b refusal (paddingAnswer (readBody backward words maps) changed))
       (ap (λ (u : ℕ). ltb u (length maps)) e ∙ le-ltb (length maps) (length maps) (le-refl (length maps))))
 
   pub body-size : length (readBody backward words maps) ≡ length maps * 7

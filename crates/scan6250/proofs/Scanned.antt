@@ -2,19 +2,20 @@
 -- Assumes nothing.
 use mathlib.Core.Path.{_≡_, sym, ap, _∙_}
 use mathlib.Core.Bool.{Bool, true, false, cond, not}
-use mathlib.Core.List.{List, [], _∷_}
-use Prim.Native.Nat.{ℕ, zero, suc, _+_, _-_, _*_, _<_, _≤_}
-use native.Mathlib.Numerals.{add-one}
+use mathlib.Core.List.{List, _∷_}
+use Prim.Native.Nat.{ℕ, _+_, _-_, _<_, _≤_}
 use native.Mathlib.Omega.{arith}
 use borrow.Author.Tests.{lt-ltb, le-ltb}
 use native.Mathlib.Nat.{le-refl}
-use lib.Count.{ones, ones-le}
 use lib.Dec.{ltb}
 use lib.ListN.{length, set}
-use Rattle.indexed.specs.List.{total}
+use Rattle.indexed.specs.List.{tabulate, total}
 use Rattle.indexed.proofs.Front.{tabulated-more}
 use Rattle.indexed.proofs.Below.{first-below-at, first-below-none}
 use Rattle.indexed.proofs.Tabulate.{tabulate-same}
+use Rattle.register.proofs.Counts.{firstBits, bits-total, bits-all}
+use Rattle.rectangular.specs.Constants.{tracks}
+use Rattle.rectangular.proofs.Changed.{changed-lt}
 use Rattle.answer.specs.Answer.{Answer, delivered, refusedFor}
 use Rattle.rectangular.specs.Correction.{Judgement, corrected}
 use Rattle.rectangular.specs.Group.{informationOf}
@@ -26,10 +27,9 @@ use Rattle.judge6250.specs.declared.judge.Judged.{Judged}
 use Rattle.judge6250.specs.declared.judge.Judged.the-variants.{Corrected}
 use Rattle.group6250.proofs.Packed.{value-low}
 use Rattle.rectangular.proofs.Symmetry.{column-ext}
-use Rattle.record6250.specs.Group.{isCorrected, reasonOf, rightValues, rightBytes}
-use Rattle.record6250.specs.Read.{judgement, changedTracks, firstUnfit, changes}
+use Rattle.record6250.specs.Group.{isCorrected, reasonOf, rightValues, rightBytes, rightWords}
+use Rattle.record6250.specs.Read.{readGroup, judgement, changedTracks, firstUnfit, changedMaps, changes, trackChanges}
 use Rattle.scan6250.specs.Told.{groupsAnswer, bytesGathered, mapsGathered}
-use Rattle.rectangular.proofs.Changed.{changed-lt}
 
 -- the bytes of a group that fits, as its packed tracks have them
 pub packed-bytes : (g : Group) → informationOf 8 (λ j. byteAt j (g .tracks)) ≡ rightBytes (corrected (valuesOf g))
@@ -67,8 +67,8 @@ module _ (backward : Bool) (words maps : List ℕ) where
     unfolding groupsAnswer
     unfit-answer h j e unfit =
         let at = unfit-at h (ap isCorrected e ∙ unfit) in
-        ap (λ (u : ℕ). cond (ltb u (length maps)) (refusedFor (reasonOf (judgement backward words maps u)) u) (delivered (changes backward words maps ∷ []))) at
-        ∙ ap (λ (b : Bool). cond b (refusedFor (reasonOf (judgement backward words maps g)) g) (delivered (changes backward words maps ∷ [])))
+        ap (λ (u : ℕ). cond (ltb u (length maps)) (refusedFor (reasonOf (judgement backward words maps u)) u) (delivered (changes backward words maps ∷ trackChanges backward words maps))) at
+        ∙ ap (λ (b : Bool). cond b (refusedFor (reasonOf (judgement backward words maps g)) g) (delivered (changes backward words maps ∷ trackChanges backward words maps)))
         (lt-ltb g (length maps) h)
         ∙ ap (λ (j : Judgement). refusedFor (reasonOf j) g) e
 
@@ -87,16 +87,16 @@ module _ (backward : Bool) (words maps : List ℕ) where
   unfolding firstUnfit
   none-unfit all = first-below-none (length maps) (λ g. not (isCorrected (judgement backward words maps g))) (λ j h. ap not (all j h))
 
-  all-answer : AllFit (length maps) → groupsAnswer backward words maps ≡ delivered (changes backward words maps ∷ [])
+  all-answer : AllFit (length maps) → groupsAnswer backward words maps ≡ delivered (changes backward words maps ∷ trackChanges backward words maps)
   unfolding groupsAnswer
   all-answer all =
-      ap (λ (u : ℕ). cond (ltb u (length maps)) (refusedFor (reasonOf (judgement backward words maps u)) u) (delivered (changes backward words maps ∷ [])))
+      ap (λ (u : ℕ). cond (ltb u (length maps)) (refusedFor (reasonOf (judgement backward words maps u)) u) (delivered (changes backward words maps ∷ trackChanges backward words maps)))
       (none-unfit all)
-      ∙ ap (λ (b : Bool). cond b (refusedFor (reasonOf (judgement backward words maps (length maps))) (length maps)) (delivered (changes backward words maps ∷ [])))
+      ∙ ap (λ (b : Bool). cond b (refusedFor (reasonOf (judgement backward words maps (length maps))) (length maps)) (delivered (changes backward words maps ∷ trackChanges backward words maps)))
       (le-ltb (length maps) (length maps) (le-refl (length maps)))
 
   -- a walk that comes to the end
-  pub ended : AllFit (length maps) → (answer : Answer) → answer ≡ delivered (changes backward words maps ∷ []) → (body changed body₀ changed₀ : List ℕ)
+  pub ended : AllFit (length maps) → (answer : Answer) → answer ≡ delivered (changes backward words maps ∷ trackChanges backward words maps) → (body changed body₀ changed₀ : List ℕ)
       → body ≡ bytesGathered backward words maps (length maps) body₀ → changed ≡ mapsGathered backward words maps (length maps) changed₀
       → Ends answer body changed body₀ changed₀
   ended all answer told body changed body₀ changed₀ bytes marks =
@@ -105,22 +105,16 @@ module _ (backward : Bool) (words maps : List ℕ) where
         (bytes ∙ ap (λ (n : ℕ). bytesGathered backward words maps n body₀) at, marks ∙ ap (λ (n : ℕ). mapsGathered backward words maps n changed₀) at),
       )
 
-  -- the changed words of the first groups
-  unfoldable pub changedTo : ℕ → ℕ
-  changedTo g = total g (λ g. ones (changedTracks backward words maps g))
+  -- the changes, and those of each track, counted to the end
+  pub all-changes : total 10 (firstBits (changedTracks backward words maps) (length maps)) ≡ changes backward words maps
+  unfolding changes changedTracks
+  all-changes =
+      bits-total (changedTracks backward words maps) (length maps) 10
+      (λ g h. omega (arith, changed-lt 9 (readGroup backward words maps g) (rightWords (judgement backward words maps g))))
 
-  pub ones-changed-le : (g : ℕ) → ones (changedTracks backward words maps g) ≤ 9
-  unfolding changedTracks
-  ones-changed-le g = ones-le 9 (changedTracks backward words maps g) (changed-lt 9 _ _)
-
-  pub changed-le : (g : ℕ) → changedTo g ≤ 9 * g
-  unfolding changedTo total
-  changed-le zero = omega arith
-  changed-le (suc g) = omega (arith, changed-le g, ones-changed-le g)
-
-  pub changed-more : (g : ℕ) → changedTo g + ones (changedTracks backward words maps g) ≡ changedTo (g + 1)
-  unfolding changedTo total
-  changed-more g = ap (λ (n : ℕ). total n (λ g. ones (changedTracks backward words maps g))) (sym (add-one g))
+  pub all-changed : tabulate tracks (firstBits (changedTracks backward words maps) (length maps)) ≡ trackChanges backward words maps
+  unfolding trackChanges changedMaps
+  all-changed = bits-all (changedTracks backward words maps) (length maps) tracks
 
   -- the map of one group more
   pub maps-more : (g : ℕ) (out : List ℕ) (m : ℕ) → g < length out → m ≡ changedTracks backward words maps g

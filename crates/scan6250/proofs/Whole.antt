@@ -3,20 +3,20 @@
 -- Assumes nothing.
 use mathlib.Core.Path.{_≡_, refl, sym, ap, _∙_}
 use mathlib.Core.Bool.{Bool, true}
-use mathlib.Core.List.{List, [], _∷_, _++_}
+use mathlib.Core.List.{List, _∷_, _++_}
 use mathlib.Core.Logic.{inl, inr}
 use Prim.Native.Nat.{ℕ, _-_, _*_, _≤_}
 use native.Mathlib.Nat.{le-of-eq}
 use native.Mathlib.Omega.{arith}
 use lib.ListN.{length, take, drop, length-append}
 use lib.Seq.{length-take-le, take-append-le, take-at}
-use Rattle.indexed.proofs.Tabulate.{length-tabulate}
 use Rattle.answer.specs.Answer.{delivered}
 use Rattle.answer.proofs.Apart.{not-both}
 use Rattle.record6250.specs.Fits.{Passes}
-use Rattle.record6250.specs.Read.{lastByte, unpadded, firstStray, firstUnfit, readBody, readData, changedMaps, changes, judgedAnswer, answerIf}
+use Rattle.record6250.specs.Read.{lastByte, unpadded, firstStray, firstUnfit, readBody, readData, changedMaps, changes, trackChanges, judgedAnswer, answerIf}
 use Rattle.record6250.proofs.Answer.{all-passed, delivered-if}
 use Rattle.record6250.proofs.Cases.{ThreeCases, cases}
+use Rattle.record6250.proofs.Counted.{length-changed}
 use Rattle.record6250.proofs.Reading.{groups-within}
 use Rattle.scan6250.specs.Told.{reached, bytesGathered, mapsGathered}
 use Rattle.scan6250.proofs.Padded.{body-size, gathered, reached-unfit}
@@ -31,16 +31,16 @@ module _ (backward : Bool) (words maps : List ℕ) (figures : List ℕ) (is-deli
   judged : judgedAnswer backward words maps ≡ delivered figures
   judged = sym (all-passed backward words maps true (passes .lengths) refl late) ∙ is-delivered
 
-  both : (firstUnfit backward words maps ≡ length maps) × (figures ≡ length (readData backward words maps) ∷ changes backward words maps ∷ [])
+  both : (firstUnfit backward words maps ≡ length maps) × (figures ≡ length (readData backward words maps) ∷ changes backward words maps ∷ trackChanges backward words maps)
   both = by (cases backward words maps)
     where
       by : ThreeCases backward words maps (judgedAnswer backward words maps)
-          → (firstUnfit backward words maps ≡ length maps) × (figures ≡ length (readData backward words maps) ∷ changes backward words maps ∷ [])
+          → (firstUnfit backward words maps ≡ length maps) × (figures ≡ length (readData backward words maps) ∷ changes backward words maps ∷ trackChanges backward words maps)
       by (inl c) = absurd (not-both figures _ _ (sym judged ∙ c .1))
       by (inr (inl c)) = let same = sym judged ∙ c .2 in (c .0, cc)
       by (inr (inr c)) = absurd (not-both figures _ _ (sym judged ∙ c .2))
 
-  pub figures-are : figures ≡ length (readData backward words maps) ∷ changes backward words maps ∷ []
+  pub figures-are : figures ≡ length (readData backward words maps) ∷ changes backward words maps ∷ trackChanges backward words maps
   figures-are = both .1
 
   pub data-short : length (readData backward words maps) ≤ 7 * length maps - 1
@@ -72,8 +72,7 @@ module _ (backward : Bool) (words maps : List ℕ) (figures : List ℕ) (is-deli
     all-maps = ap (λ (n : ℕ). mapsGathered backward words maps n before) (reached-unfit backward words maps late ∙ both .0)
 
     long : length (changedMaps backward words maps) ≡ length maps
-    unfolding changedMaps
-    long = length-tabulate (length maps) _
+    long = length-changed backward words maps
 
     pub maps-within : length maps ≤ length (mapsGathered backward words maps (reached backward words maps) before)
     maps-within = rw all-maps (omega (arith, long, length-append (changedMaps backward words maps) (drop (length maps) before)))

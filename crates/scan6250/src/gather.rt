@@ -7,9 +7,9 @@ use reading6250::first_group;
 use reading6250::judge_at;
 use reading6250::next_group;
 use rectangular::Code6250;
+use track_counts::Counts;
 ghost use mathlib.Core.Path.{_≡_};
 ghost use Prim.Native.Nat.{_*_, _≤_};
-ghost use lib.Count.{ones};
 ghost use lib.ListN.{length};
 ghost use Rattle.answer.specs.Answer.{refusedFor};
 ghost use Rattle.group_code.specs.Word.{readings};
@@ -18,20 +18,10 @@ ghost use Rattle.record6250.specs.Fits.{Passes};
 ghost use Rattle.record6250.specs.Read.{firstUnfit};
 ghost use Rattle.scan6250.specs.Told.{toldGathered, groupsAnswer, bytesGathered, mapsGathered};
 
-// What the groups of a record come to: how many words are changed, or why it is refused.
+// What the groups of a record come to: how many words are changed, and how many in each track; or why it is refused.
 pub(crate) enum Gathered {
-    All(usize),
+    All(usize, Counts),
     Unfit(Refusal),
-}
-
-// How many tracks a map of changed ones has. Most groups have none, and that is seen at once.
-fn count_changed(changed: u16) -> usize
-    ensures { λ r. ⌜ r ≡ ones changed ⌝ }
-{
-    if changed == 0 {
-        return 0;
-    }
-    u16::count_ones(changed) as usize
 }
 
 fn unfit(reason: Reason, place: usize) -> Gathered
@@ -55,7 +45,7 @@ pub(crate) fn gather(
     ensures bytes { λ _. ⌜ now (body .exit) ≡ bytesGathered backward (now (words .entry)) (now (maps .entry)) (firstUnfit backward (now (words .entry)) (now (maps .entry))) (now (body .entry)) ⌝ }
     ensures maps { λ _. ⌜ now (changed .exit) ≡ mapsGathered backward (now (words .entry)) (now (maps .entry)) (firstUnfit backward (now (words .entry)) (now (maps .entry))) (now (changed .entry)) ⌝ }
 {
-    let mut changes: usize = 0;
+    let mut counts = Counts::none();
     let mut g = first_group(words);
     while g < maps.len() {
         match judge_at(words, g, maps, backward, table) {
@@ -64,7 +54,7 @@ pub(crate) fn gather(
                 let at = g * Code6250::BYTES;
                 unpack(&mut body[at..], group.tracks);
                 changed[g] = right.changed;
-                changes += count_changed(right.changed);
+                counts = counts.with(right.changed);
                 g = next_group(words, g);
             }
             Judged::ManyPointed => {
@@ -75,5 +65,5 @@ pub(crate) fn gather(
             }
         }
     }
-    Gathered::All(changes)
+    Gathered::All(counts.sum(), counts)
 }

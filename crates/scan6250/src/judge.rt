@@ -8,7 +8,9 @@ use answer::Reason;
 use answer::Refusal;
 use reading6250::first_stray;
 use rectangular::Code6250;
+use track_counts::Counts;
 ghost use mathlib.Core.Bool.{true};
+ghost use mathlib.Core.List.{_∷_};
 ghost use mathlib.Core.Path.{_≡_};
 ghost use Prim.Native.Nat.{_*_, _≤_};
 ghost use lib.ListN.{length, take};
@@ -16,6 +18,7 @@ ghost use Rattle.answer.specs.Answer.{refusedFor};
 ghost use Rattle.group_code.specs.Word.{readings};
 ghost use Rattle.rectangular.specs.Constants.{bytesPerGroup};
 ghost use Rattle.record6250.specs.Read.{lengthsSuit, answerIf};
+ghost use Rattle.track_counts.specs.Counts.{countsTold};
 ghost use Rattle.scan6250.specs.Told.{toldRead, paddingAnswer, reached, bytesGathered, mapsGathered};
 
 // Whether there are the numbers of a group and a map for each of 1 to 586 groups.
@@ -39,13 +42,17 @@ pub fn refused(reason: Reason, place: usize) -> Read
 }
 
 // Holds the corrected bytes, of which there are that many, to the padding rule.
-fn padded(body: &[u8], size: usize, changes: usize) -> Read
+fn padded(body: &[u8], size: usize, changes: usize, counts: Counts) -> Read
     requires { ⌜ (bytesPerGroup ≤ size) × (size ≤ length (now body)) ⌝ }
-    ensures { λ r. ⌜ toldRead r ≡ paddingAnswer (take size (now (body .entry))) changes ⌝ }
+    ensures { λ r. ⌜ toldRead r ≡ paddingAnswer (take size (now (body .entry))) (changes ∷ countsTold counts) ⌝ }
 {
     if padding_suits(&body[..size]) {
         let length = size - 1 - body[size - 1] as usize;
-        return Read::Delivered(Figures { length, changes });
+        return Read::Delivered(Figures {
+            length,
+            changes,
+            counts,
+        });
     }
     refused(Reason::Padding, 0)
 }
@@ -71,7 +78,9 @@ pub fn judge_record(
         return refused(Reason::StrayBits, stray);
     }
     match gather(words, maps, backward, table, body, changed) {
-        Gathered::All(changes) => padded(body, groups * Code6250::BYTES, changes),
+        Gathered::All(changes, counts) => {
+            padded(body, groups * Code6250::BYTES, changes, counts)
+        }
         Gathered::Unfit(refusal) => Read::Refused(refusal),
     }
 }

@@ -9,14 +9,16 @@ use answer::Refusal;
 pub use judge::judge_record;
 pub use judge::lengths_suit;
 pub use judge::refused;
+use track_counts::Counts;
 
 // A record of so few groups is short: who judges one lends it small arrays, since an array is cleared.
 pub const SHORT: usize = 64;
 
-// The figures of a delivery: the data's length, and how many words of the reading differ from the record.
+// The figures of a delivery: the data's length, how many words of the reading differ from the record, and how many in each track.
 pub struct Figures {
     pub length: usize,
     pub changes: usize,
+    pub counts: Counts,
 }
 
 // What reading a record answers.

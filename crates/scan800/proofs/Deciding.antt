@@ -18,7 +18,7 @@ use Rattle.register.proofs.Shift.{shifts-add}
 use Rattle.answer.specs.Answer.{delivered, refused}
 use Rattle.cyclic.specs.Constants.{feedback, offset}
 use Rattle.cyclic.proofs.Constants.{exponent-of-X}
-use Rattle.record800.specs.Read.{wrong, checkRead, errorPattern, longitudinalRead, wrongParity, wrongCount, holds, oneOf, judgedAnswer}
+use Rattle.record800.specs.Read.{figuresOf, wrong, checkRead, errorPattern, longitudinalRead, wrongParity, wrongCount, holds, oneOf, judgedAnswer}
 use Rattle.judge800.specs.Told.{FoundIs}
 use Rattle.judge800.specs.declared.track.Found.{Found}
 use Rattle.scan800.specs.Told.{GatheredAre}
@@ -52,12 +52,12 @@ module _ (n : ℕ) (l : List ℕ) where
         (ap (λ (w : ℕ). w * 2 ^ 0) (even-wrong n l none-is))
 
     pub clean-answer : (b : Bool) → b ≡ (eqb (checkRead n l) offset && eqb (longitudinalRead n l) 0)
-        → judgedAnswer n l ≡ cond b (delivered (n ∷ 9 ∷ 0 ∷ [])) (refused 7 0)
+        → judgedAnswer n l ≡ cond b (delivered (figuresOf n 9 0)) (refused 7 0)
     unfolding judgedAnswer
     clean-answer b e =
-        ap (λ (t : Bool). cond t (cond (holds n l 0) (delivered (n ∷ 9 ∷ 0 ∷ [])) (refused 7 0)) (oneOf n l (keep (holds n l) (below 9))))
+        ap (λ (t : Bool). cond t (cond (holds n l 0) (delivered (figuresOf n 9 0)) (refused 7 0)) (oneOf n l (keep (holds n l) (below 9))))
         (eq-eqb (wrongCount n l) 0 none-is)
-        ∙ ap (λ (t : Bool). cond t (delivered (n ∷ 9 ∷ 0 ∷ [])) (refused 7 0)) (clean-holds ∙ sym e)
+        ∙ ap (λ (t : Bool). cond t (delivered (figuresOf n 9 0)) (refused 7 0)) (clean-holds ∙ sym e)
 
   -- ---- some are
 
@@ -65,13 +65,13 @@ module _ (n : ℕ) (l : List ℕ) where
     kept-answer : judgedAnswer n l ≡ oneOf n l (keep (holds n l) (below 9))
     unfolding judgedAnswer
     kept-answer =
-        ap (λ (t : Bool). cond t (cond (holds n l 0) (delivered (n ∷ 9 ∷ 0 ∷ [])) (refused 7 0)) (oneOf n l (keep (holds n l) (below 9))))
+        ap (λ (t : Bool). cond t (cond (holds n l 0) (delivered (figuresOf n 9 0)) (refused 7 0)) (oneOf n l (keep (holds n l) (below 9))))
         (ne-eqb (wrongCount n l) 0 some)
 
     -- by the number of tracks that hold
     by-count : (tracks : List ℕ) → (length tracks ≡ 0 → oneOf n l tracks ≡ refused 7 0)
         × (1 < length tracks → oneOf n l tracks ≡ refused 8 0)
-        × (length tracks ≡ 1 → oneOf n l tracks ≡ delivered (n ∷ getD tracks 0 9 ∷ wrongCount n l ∷ []))
+        × (length tracks ≡ 1 → oneOf n l tracks ≡ delivered (figuresOf n (getD tracks 0 9) (wrongCount n l)))
     unfolding oneOf
     by-count [] = (λ e. refl, λ h. absurd (omega arith), λ e. absurd (omega arith))
     by-count (j ∷ []) = (λ e. absurd (omega arith), λ h. absurd (omega arith), λ e. refl)
@@ -84,7 +84,7 @@ module _ (n : ℕ) (l : List ℕ) where
     several-answer h = kept-answer ∙ by-count (keep (holds n l) (below 9)) .1 h
 
     pub one-answer : length (keep (holds n l) (below 9)) ≡ 1
-        → judgedAnswer n l ≡ delivered (n ∷ getD (keep (holds n l) (below 9)) 0 9 ∷ wrongCount n l ∷ [])
+        → judgedAnswer n l ≡ delivered (figuresOf n (getD (keep (holds n l) (below 9)) 0 9) (wrongCount n l))
     one-answer e = kept-answer ∙ by-count (keep (holds n l) (below 9)) .2 e
 
   -- the tracks that the code tries are those that hold

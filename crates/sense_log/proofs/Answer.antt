@@ -2,22 +2,23 @@
 -- Assumes nothing.
 use mathlib.Core.Path.{_≡_, ap, _∙_}
 use mathlib.Core.Bool.{Bool, true, false, cond}
-use mathlib.Core.List.{List, []}
+use mathlib.Core.List.{List}
 use Prim.Native.Nat.{ℕ, _≤_}
 use borrow.Author.Tests.{leb-true}
 use lib.Dec.{leb}
 use Rattle.answer.specs.Answer.{Answer, delivered, refusedFor}
 use Rattle.answer.specs.declared.Reason.the-variants.{Space, LogLength, LogContent}
 use Rattle.answer.proofs.Passed.{test-held}
-use Rattle.sense_log.specs.Back.{lengthSuits, contentSuits, readLogAnswer}
+use Rattle.sense_log.specs.Back.{lengthSuits, contentSuits, mapsOf, readLogAnswer}
+use Rattle.sense_log.specs.Log.{trackMarks}
 
 module _ (groups : ℕ) (log : List ℕ) (space : ℕ) where
   -- the answer once space has passed, and once length has
   abbrev by-length : Answer
-  by-length = cond (lengthSuits groups log) (cond (contentSuits groups log) (delivered []) (refusedFor LogContent 0)) (refusedFor LogLength 0)
+  by-length = cond (lengthSuits groups log) (cond (contentSuits groups log) (delivered (trackMarks (mapsOf groups log))) (refusedFor LogContent 0)) (refusedFor LogLength 0)
 
   abbrev by-content : Answer
-  by-content = cond (contentSuits groups log) (delivered []) (refusedFor LogContent 0)
+  by-content = cond (contentSuits groups log) (delivered (trackMarks (mapsOf groups log))) (refusedFor LogContent 0)
 
   pub back-no-space : leb groups space ≡ false → readLogAnswer groups log space ≡ refusedFor Space 0
   unfolding readLogAnswer
@@ -36,10 +37,10 @@ module _ (groups : ℕ) (log : List ℕ) (space : ℕ) where
       back-by-content = spaced ∙ ap (λ (b : Bool). cond b by-content (refusedFor LogLength 0)) suits
 
       pub back-no-content : contentSuits groups log ≡ false → readLogAnswer groups log space ≡ refusedFor LogContent 0
-      back-no-content e = back-by-content ∙ ap (λ (b : Bool). cond b (delivered []) (refusedFor LogContent 0)) e
+      back-no-content e = back-by-content ∙ ap (λ (b : Bool). cond b (delivered (trackMarks (mapsOf groups log))) (refusedFor LogContent 0)) e
 
-      pub back-all : contentSuits groups log ≡ true → readLogAnswer groups log space ≡ delivered []
-      back-all e = back-by-content ∙ ap (λ (b : Bool). cond b (delivered []) (refusedFor LogContent 0)) e
+      pub back-all : contentSuits groups log ≡ true → readLogAnswer groups log space ≡ delivered (trackMarks (mapsOf groups log))
+      back-all e = back-by-content ∙ ap (λ (b : Bool). cond b (delivered (trackMarks (mapsOf groups log))) (refusedFor LogContent 0)) e
 
   -- a good log: its length and its content suit, and there is space for its maps
   pub back-delivered : (figures : List ℕ) → readLogAnswer groups log space ≡ delivered figures

@@ -16,7 +16,7 @@ use Rattle.indexed.proofs.Tabulate.{length-tabulate, tabulate-same, tabulate-ge
 use Rattle.indexed.proofs.Total.{one-of-total}
 use Rattle.answer.specs.Answer.{delivered}
 use Rattle.sense_log.specs.Back.{groupBit, standingBits, lengthSuits, contentSuits, storedMap, mapBack, mapsOf, readLogAnswer}
-use Rattle.sense_log.specs.Log.{bitMapLength, standing, bitMap, mapBytes, logOf}
+use Rattle.sense_log.specs.Log.{bitMapLength, standing, bitMap, mapBytes, logOf, trackMarks}
 use Rattle.sense_log.proofs.Answer.{back-all}
 use Rattle.sense_log.proofs.Bits.{stored, bitOf, length-bitMap, length-stored, length-log, bit-written, bits-written}
 use Rattle.sense_log.proofs.Good.{length-suits, spare-clear, maps-suit, content-suits}
@@ -104,5 +104,7 @@ module _ (maps : List ℕ) where
                 by (yes h) = h
                 by (no h) = absurd (omega (arith, standing-none m (omega arith)))
 
-    pub log-delivered : (space : ℕ) → length maps ≤ space → readLogAnswer (length maps) log space ≡ delivered []
-    log-delivered space h = back-all (length maps) log space (le-leb (length maps) space h) log-length log-content
+    pub log-delivered : (space : ℕ) → length maps ≤ space → readLogAnswer (length maps) log space ≡ delivered (trackMarks maps)
+    log-delivered space h =
+        back-all (length maps) log space (le-leb (length maps) space h) log-length log-content
+        ∙ ap (λ (l : List ℕ). delivered (trackMarks l)) maps-back

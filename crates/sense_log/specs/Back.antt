@@ -2,7 +2,7 @@
 -- Assumes nothing.
 use Prim.Native.Nat.{ℕ, _+_, _-_, _*_, _/_, _%_}
 use mathlib.Core.Bool.{Bool, cond, _&&_}
-use mathlib.Core.List.{List, []}
+use mathlib.Core.List.{List}
 use lib.Dec.{eqb, leb, ltb}
 use lib.ListN.{length, getD}
 use Rattle.indexed.specs.List.{tabulate, total}
@@ -11,7 +11,7 @@ use Rattle.register.specs.Bit.{bit}
 use Rattle.answer.specs.Answer.{Answer, delivered, refusedFor}
 use Rattle.answer.specs.declared.Reason.the-variants.{Space, LogLength, LogContent}
 use Rattle.rectangular.specs.Constants.{mostMap, mostGroups}
-use Rattle.sense_log.specs.Log.{bitMapLength}
+use Rattle.sense_log.specs.Log.{bitMapLength, trackMarks}
 use Rattle.sense_log.specs.Pair.{pairAt}
 
 -- the bit of group g, and how many of the first groups' bits stand
@@ -54,11 +54,11 @@ module _ (groups : ℕ) (log : List ℕ) where
   unfoldable pub mapsOf : List ℕ
   mapsOf = tabulate groups mapBack
 
-  -- the answer with space for so many maps
+  -- the answer with space for so many maps: "Reading back a log of 2.1 tells the marks of each track" (document 02, "2.7")
   unfoldable pub readLogAnswer : ℕ → Answer
   readLogAnswer space =
       cond (leb groups space)
       (cond lengthSuits
-      (cond contentSuits (delivered []) (refusedFor LogContent 0))
+      (cond contentSuits (delivered (trackMarks mapsOf)) (refusedFor LogContent 0))
       (refusedFor LogLength 0))
       (refusedFor Space 0)

@@ -9,6 +9,8 @@ use lib.Dec.{eqb}
 use lib.ListN.{length, getD}
 use Rattle.indexed.specs.List.{tabulate, blocks, total}
 use Rattle.register.specs.Bit.{ofBits}
+use Rattle.register.specs.Counts.{bitCounts}
+use Rattle.rectangular.specs.Constants.{tracks}
 
 -- the bytes of a bit map for so many groups
 abbrev pub bitMapLength : ℕ → ℕ
@@ -40,3 +42,7 @@ logOf maps = bitMap maps ++ blocks (length maps) (λ g. mapBytes (getD maps g 0)
 -- "A mark is one track bit of one group."
 unfoldable pub marks : List ℕ → ℕ
 marks maps = total (length maps) (λ g. ones (getD maps g 0))
+
+-- the marks of each track, track 0 first (document 02, "2.7")
+unfoldable pub trackMarks : List ℕ → List ℕ
+trackMarks maps = bitCounts tracks maps

@@ -15,8 +15,9 @@ use Rattle.copy800.specs.Copy.{copyGroups, copySpace, copied, copiedRecord, cop
 use Rattle.record6250.specs.Record as six
 use Rattle.record800.specs.Fits as eight
 use Rattle.record800.specs.Read.{spaceFor}
-use Rattle.terms.specs.Reading.{bpi6250, bpi800, Reading, at800, IsData, writtenRecord, undamaged, Enough, Passes, Fits, OneFits, told, unchanged, readAnswer, readData}
-use Rattle.terms.specs.Terms.{ReadsBack, groupsTold, copyStored, Copies, DecidesCopy}
+use Rattle.terms.specs.Reading.{bpi6250, bpi800, Reading, at800, density, IsData, writtenRecord, undamaged, Enough, Passes, Fits, OneFits, told, unchanged, readAnswer, readData}
+use Rattle.terms.specs.Terms.{Counts, ReadsBack, groupsTold, readingTold, copyStored, Copies, DecidesCopy}
+use Rattle.terms.proofs.Counted.{counts-told}
 use Rattle.terms.proofs.Second.{read-back}
 use Rattle.terms.proofs.Third.{one-delivered, delivered-passes, delivered-one, output-of, decides}
 
@@ -26,6 +27,13 @@ unfolding groupsTold
 groups-last figures groups =
     let behind : length (figures ++ (groups ∷ [])) - 1 ≡ length figures = omega (arith, length-append figures (groups ∷ [])) in
     ap (λ (k : ℕ). getD (figures ++ (groups ∷ [])) k 0) behind ∙ getD-append-seam figures groups [] 0
+
+-- and what stands in front of it are the figures of the reading
+reading-front : (figures : List ℕ) (groups : ℕ) → readingTold (figures ++ (groups ∷ [])) ≡ figures
+unfolding readingTold
+reading-front figures groups =
+    let behind : length (figures ++ (groups ∷ [])) - 1 ≡ length figures = omega (arith, length-append figures (groups ∷ [])) in
+    ap (λ (k : ℕ). take k (figures ++ (groups ∷ []))) behind ∙ take-append-seam figures (groups ∷ [])
 
 module _ (backward : Bool) (characters : List ℕ) where
   -- the reading, and the space that a reader of it needs
@@ -100,6 +108,13 @@ module _ (backward : Bool) (characters : List ℕ) where
                 ∙ ap (λ (l : List ℕ). l ++ drop (length l) before) (is .1),
           )
 
+    copy-counts : (figures : List ℕ) → answer ≡ delivered figures → Counts bpi800 (readingTold figures)
+    unfolding readAnswer density
+    copy-counts figures e =
+        let passed = copy-passed backward characters (length before) figures (sym answers ∙ e) in
+        subst (Counts bpi800) (sym (ap readingTold (passed .3) ∙ reading-front (passed .1) (copyGroups (length characters))))
+        (counts-told reading enough (passed .1) (passed .2))
+
     pub copies : Copies backward characters answer before after
     copies = record {
       one-copied = one-is-copied;
@@ -108,6 +123,7 @@ module _ (backward : Bool) (characters : List ℕ) where
         answers ∙ sym (copy-turned backward characters (length before)),
         stores ∙ ap (λ (l : List ℕ). outputAfter answer l before) (sym (copied-turned backward characters)),
       );
+      counted = copy-counts;
     }
 
     -- ---- the third term

@@ -116,7 +116,7 @@ unfolding readLogAnswer
 listed-back groups bytes space =
     listed-choice (λ n. 0) (leb groups space) _ _
     (λ room. listed-choice (λ n. 0) (lengthSuits groups bytes) _ _
-    (λ suits. listed-choice (λ n. 0) (contentSuits groups bytes) _ _ (λ good. listed-delivery (λ n. 0) []) (λ bad. listed-refusal (λ n. 0) LogContent))
+    (λ suits. listed-choice (λ n. 0) (contentSuits groups bytes) _ _ (λ good. listed-delivery (λ n. 0) _) (λ bad. listed-refusal (λ n. 0) LogContent))
     (λ short. listed-refusal (λ n. 0) LogLength))
     (λ full. listed-refusal (λ n. 0) Space)
 

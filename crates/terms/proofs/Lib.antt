@@ -1,4 +1,5 @@
 pub mod Third
+pub mod Counted
 pub mod Logged
 pub mod Moved
 pub mod Second

@@ -12,26 +12,27 @@ use lib.ListN.{length, getD, take, drop}
 use lib.Seq.{take-append-seam}
 use Rattle.answer.specs.Answer.{Answer, delivered, outputAfter}
 use Rattle.answer.proofs.Retold.{retold-delivered}
+use Rattle.indexed.specs.List.{total}
 use Rattle.indexed.proofs.Tabulate.{getD-tabulate}
-use Rattle.indexed.proofs.Test.{flag-lt}
 use Rattle.rectangular.specs.Constants.{tracks}
-use Rattle.rectangular.specs.Correction.{changedMap}
+use Rattle.rectangular.proofs.Changed.{bit-changed}
 use Rattle.register.specs.Bit.{bit}
-use Rattle.register.proofs.Ones.{bit-of-tabulate}
-use Rattle.record6250.proofs.Answer.{all-passed}
+use Rattle.record6250.proofs.Answer.{all-passed, answer-passed}
+use Rattle.record6250.proofs.Counted.{delivery-is}
 use Rattle.record6250.proofs.Fitting.{fits-delivered, delivered-fits, maps-changed, only-one}
 use Rattle.record6250.specs.Fits as six
 use Rattle.record6250.specs.Fits.{mapsChanged}
 use Rattle.record6250.specs.Picture.{groupRead, pictureMaps, turnedNumbers}
-use Rattle.record6250.specs.Read.{readGroup, readData, judgedAnswer, answerIf}
+use Rattle.record6250.specs.Read.{readGroup, readData, trackChanges, judgedAnswer, answerIf}
 use Rattle.sense_log.proofs.Again.{log-again}
-use Rattle.sense_log.proofs.Answer.{back-delivered}
+use Rattle.sense_log.proofs.Answer.{back-all, back-delivered}
 use Rattle.sense_log.proofs.Back.{length-mapsOf}
+use Rattle.sense_log.proofs.Marks.{marks-total}
 use Rattle.sense_log.proofs.Written.{log-passed, reading-log-back, reading-log-delivered, log-turned, log-answer-turned}
 use Rattle.sense_log.specs.Back.{readLogAnswer, mapsOf}
-use Rattle.sense_log.specs.Log.{logSpace, logOf}
+use Rattle.sense_log.specs.Log.{logSpace, logOf, marks, trackMarks}
 use Rattle.sense_log.specs.Written.{logged, readingLog, logAnswer}
-use Rattle.terms.specs.Reading.{bpi6250, at6250, Fits, OneFits, writtenRecord, lengthTold}
+use Rattle.terms.specs.Reading.{bpi6250, at6250, Enough, Fits, OneFits, writtenRecord, lengthTold, countsTold, readAnswer}
 use Rattle.terms.specs.Terms.{Logs, LogsAgain, DecidesLog}
 use Rattle.terms.proofs.Third.{output-of, decides}
 
@@ -39,15 +40,30 @@ use Rattle.terms.proofs.Third.{output-of, decides}
 
 module _ (groups : ℕ) (bytes : List ℕ) (answer : Answer) (before after : List ℕ)
     (answers : answer ≡ readLogAnswer groups bytes (length before)) (stores : after ≡ outputAfter answer (mapsOf groups bytes) before) where
-  pub logs-again : LogsAgain groups bytes answer after
-  unfolding LogsAgain
-  logs-again small figures e =
-      let good = back-delivered groups bytes (length before) figures (sym answers ∙ e) in
-      let front : take groups after ≡ mapsOf groups bytes =
+  -- the maps that stand at the front after a delivery
+  maps-front : (figures : List ℕ) → answer ≡ delivered figures → take groups after ≡ mapsOf groups bytes
+  maps-front figures e =
       ap (take groups) (output-of answer figures (mapsOf groups bytes) before after e stores)
       ∙ ap (λ (n : ℕ). take n (mapsOf groups bytes ++ drop (length (mapsOf groups bytes)) before)) (sym (length-mapsOf groups bytes))
-      ∙ take-append-seam (mapsOf groups bytes) _ in
-      ap logOf front ∙ log-again groups bytes small (good .1) (good .2)
+      ∙ take-append-seam (mapsOf groups bytes) _
+
+  marked-each : (figures : List ℕ) → answer ≡ delivered figures
+      → (figures ≡ trackMarks (take groups after)) × (total tracks (λ t. getD figures t 0) ≡ marks (take groups after))
+  marked-each figures e =
+      let good = back-delivered groups bytes (length before) figures (sym answers ∙ e) in
+      let whole = sym e ∙ answers ∙ back-all groups bytes (length before) (le-leb groups (length before) (good .0)) (good .1) (good .2) in
+      let is : figures ≡ trackMarks (mapsOf groups bytes) = cc in (
+        is ∙ ap trackMarks (sym (maps-front figures e)),
+        ap (λ (l : List ℕ). total tracks (λ t. getD l t 0)) is ∙ marks-total groups bytes (good .2) ∙ ap marks (sym (maps-front figures e)),
+      )
+
+  pub logs-again : LogsAgain groups bytes answer after
+  logs-again = record {
+    written-again = λ small figures e.
+        let good = back-delivered groups bytes (length before) figures (sym answers ∙ e) in
+        ap logOf (maps-front figures e) ∙ log-again groups bytes small (good .1) (good .2);
+    marks-told = marked-each;
+  }
 
 -- ---- a log that is written
 
@@ -75,6 +91,17 @@ module _ (backward : Bool) (words maps : List ℕ) (answer : Answer) (before aft
           ∙ ap (λ (a : Answer). outputAfter a (readingLog backward words maps) before) e
           ∙ sym (ap (λ (a : Answer). outputAfter a (readingLog (not backward) (turnedNumbers words) (pictureMaps true maps)) before) e)
 
+  -- what a reader tells of the same reading
+  counted-alike : (figures : List ℕ) → answer ≡ delivered figures → (space : ℕ) → Enough (at6250 backward words maps) space
+      → (told : List ℕ) × (readAnswer (at6250 backward words maps) space ≡ delivered told) × (countsTold bpi6250 told ≡ trackChanges backward words maps)
+  unfolding Enough readAnswer countsTold logAnswer
+  counted-alike figures e space enough =
+      let passed = log-passed backward words maps (length before) figures (sym answers ∙ e) in
+      let logged-if = retold-delivered _ (answerIf backward words maps (leb (logSpace (length maps)) (length before))) figures (sym answers ∙ e) in
+      let judged-is = sym (all-passed backward words maps _ (passed .0 .lengths) (le-leb _ _ (passed .1)) (le-of-eq (sym (passed .0 .no-stray)))) ∙ logged-if .1 in
+      let is = answer-passed backward words maps (passed .0) space enough ∙ judged-is in
+      (_, is, ap (drop 2) (delivery-is backward words maps space _ is))
+
   pub logs : Logs backward words maps answer before after
   logs = record {
     reads-back = λ figures e space h.
@@ -82,6 +109,7 @@ module _ (backward : Bool) (words maps : List ℕ) (answer : Answer) (before aft
           ap (λ (l : List ℕ). readLogAnswer (length maps) l space) (front figures e) ∙ reading-log-delivered backward words maps passes space h,
           ap (mapsOf (length maps)) (front figures e) ∙ reading-log-back backward words maps passes,
         );
+    as-counted = counted-alike;
     as-turned = (answers ∙ sym (log-answer-turned backward words maps (length before)), turned-output);
   }
 
@@ -112,18 +140,18 @@ module _ (backward : Bool) (words maps : List ℕ) (answer : Answer) (before aft
           record { fits = f; only = λ others g. only-one backward words maps passes others (readData backward words maps) g f },
         )
 
-    marks : (bytes figures : List ℕ) → Fits (at6250 backward words maps) bytes → answer ≡ delivered figures → (g k : ℕ) → g < length maps → k < tracks
+    differs : (bytes figures : List ℕ) → Fits (at6250 backward words maps) bytes → answer ≡ delivered figures → (g k : ℕ) → g < length maps → k < tracks
         → bit k (getD (mapsOf (length maps) (take (lengthTold figures) after)) g 0)
         ≡ cond (eqb (getD (readGroup backward words maps g) k 0) (getD (groupRead false (length maps) (writtenRecord bpi6250 bytes) g) k 0)) 0 1
-    unfolding Fits writtenRecord mapsChanged changedMap
-    marks bytes figures fits e g k h b =
+    unfolding Fits writtenRecord mapsChanged
+    differs bytes figures fits e g k h b =
         ap (λ (l : List ℕ). bit k (getD (mapsOf (length maps) l) g 0)) (front figures e)
         ∙ ap (λ (l : List ℕ). bit k (getD l g 0)) (reading-log-back backward words maps passes ∙ maps-changed backward words maps passes bytes fits)
         ∙ ap (bit k) (getD-tabulate (length maps) _ g 0 h)
-        ∙ bit-of-tabulate tracks _ (λ i c. flag-lt (eqb (getD (readGroup backward words maps g) i 0) _)) k b
+        ∙ bit-changed tracks (readGroup backward words maps g) (groupRead false (length maps) (writtenRecord bpi6250 bytes) g) k b
 
     pub log-decides : DecidesLog backward words maps answer before after
     log-decides = record {
       decided = decides (at6250 backward words maps) _ _ answer (readingLog backward words maps) before after stores delivers has-one;
-      marked = marks;
+      marked = differs;
     }

@@ -23,6 +23,7 @@ use Rattle.record800.proofs.Undamaged as eightUndamaged
 use Rattle.terms.specs.Call.{write, answerTo}
 use Rattle.terms.specs.Reading.{Density, bpi6250, bpi800, Reading, at6250, at800, density, isBackward, received, IsData, writtenRecord, turned, undamaged, Enough, Passes, Fits, told, unchanged, lengthTold, changesTold, readAnswer, readData}
 use Rattle.terms.specs.Terms.{recordStored, Writes, Reads, OneData}
+use Rattle.terms.proofs.Counted.{counts-told}
 use Rattle.terms.proofs.Third.{one-delivered, delivered-passes, delivered-one, output-of}
 
 -- ---- a reading and the same turned
@@ -182,4 +183,5 @@ module _ (r : Reading) (answer : Answer) (before after : List ℕ) (answers : an
     undamaged-read = read-undamaged;
     unchanged-written = written-again;
     as-turned = (answers ∙ sym (turned-answer r (length before)), stores ∙ turned-output r before answer answers);
+    counted = λ figures e. counts-told r (length before) figures (sym answers ∙ e);
   }

@@ -5,9 +5,9 @@ use mathlib.Core.Bool.{Bool, true, false, not}
 use mathlib.Core.List.{List, [], _∷_}
 use mathlib.Core.Path.{_≡_}
 use Prim.Native.Nat.{ℕ, _/_, _≤_}
-use lib.ListN.{length, getD, replicate}
+use lib.ListN.{length, getD, drop, replicate}
 use Rattle.answer.specs.Answer.{Answer}
-use Rattle.rectangular.specs.Constants.{numbersPerGroup}
+use Rattle.rectangular.specs.Constants.{tracks, numbersPerGroup}
 use Rattle.record6250.specs.Fits as six
 use Rattle.record6250.specs.Picture as sixPicture
 use Rattle.record6250.specs.Read as sixRead
@@ -87,24 +87,34 @@ pub record OneFits (r : Reading) (bytes : List ℕ) : Type 0 where
 
 -- ---- what a delivery tells
 
--- of these data: their length, and the reading's differences from their record (at 800, their track and their number)
+-- of these data: their length, and the reading's differences from their record (at 800, their track and their number), also track by track
+-- (document 02, "2.7")
 unfoldable pub told : Reading → List ℕ → List ℕ
-told (at6250 backward words maps) bytes = length bytes ∷ six.wordsChanged backward words maps bytes ∷ []
+told (at6250 backward words maps) bytes =
+    length bytes ∷ six.wordsChanged backward words maps bytes ∷ six.trackDifferences backward words maps bytes
 told (at800 backward characters) bytes =
-    length bytes ∷ eight.trackChanged backward characters bytes ∷ eight.charactersChanged backward characters bytes ∷ []
+    length bytes ∷ eight.trackChanged backward characters bytes ∷ eight.charactersChanged backward characters bytes
+    ∷ eight.trackDifferences backward characters bytes
 
 -- of so many bytes with no change counted
 unfoldable pub unchanged : Density → ℕ → List ℕ
-unchanged bpi6250 n = n ∷ 0 ∷ []
-unchanged bpi800 n = n ∷ 9 ∷ 0 ∷ []
+unchanged bpi6250 n = n ∷ 0 ∷ replicate tracks 0
+unchanged bpi800 n = n ∷ 9 ∷ 0 ∷ replicate tracks 0
 
--- the length and the changes among the figures told
+-- the length, the corrected track at 800, the changes, and the changes of each track among the figures told
 unfoldable pub lengthTold : List ℕ → ℕ
 lengthTold figures = getD figures 0 0
+
+unfoldable pub trackTold : List ℕ → ℕ
+trackTold figures = getD figures 1 0
 
 unfoldable pub changesTold : Density → List ℕ → ℕ
 changesTold bpi6250 figures = getD figures 1 0
 changesTold bpi800 figures = getD figures 2 0
+
+unfoldable pub countsTold : Density → List ℕ → List ℕ
+countsTold bpi6250 figures = drop 2 figures
+countsTold bpi800 figures = drop 3 figures
 
 -- ---- the readers
 

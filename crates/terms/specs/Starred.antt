@@ -1,5 +1,5 @@
 -- The bench readings that document 01 marks with a star, as one table, and logs and copies beside it; word 8 is document 02's ("2.2"), which adds the last
--- 6250 reading, and so is the answer where one track is wrong and another pointed ("2.3"). Each call is lent an output of ten numbers, so that
+-- 6250 reading, and so is the answer where one track is wrong and another pointed ("2.3") and the changes of each track ("2.7"). Each call is lent an output of ten numbers, so that
 -- a row also says what is kept: behind a result, and after a refusal all of it.
 -- Assumes nothing.
 use Prim.Native.Nat.{ℕ}
@@ -73,19 +73,35 @@ group6250 words pointers answer front = record { reading = at6250 false words (p
 unfoldable pub characters800 : List ℕ → Answer → List ℕ → Read
 characters800 characters answer front = record { reading = at800 false characters; answer = answer; front = front }
 
+-- the changes of each track (document 02, "2.7"): none, or one in track 0, 5 or 8, or one in each of tracks 0 and 8
+abbrev pub none : List ℕ
+none = 0 ∷ 0 ∷ 0 ∷ 0 ∷ 0 ∷ 0 ∷ 0 ∷ 0 ∷ 0 ∷ []
+
+abbrev pub in0 : List ℕ
+in0 = 1 ∷ 0 ∷ 0 ∷ 0 ∷ 0 ∷ 0 ∷ 0 ∷ 0 ∷ 0 ∷ []
+
+abbrev pub in5 : List ℕ
+in5 = 0 ∷ 0 ∷ 0 ∷ 0 ∷ 0 ∷ 1 ∷ 0 ∷ 0 ∷ 0 ∷ []
+
+abbrev pub in8 : List ℕ
+in8 = 0 ∷ 0 ∷ 0 ∷ 0 ∷ 0 ∷ 0 ∷ 0 ∷ 0 ∷ 1 ∷ []
+
+abbrev pub in0and8 : List ℕ
+in0and8 = 1 ∷ 0 ∷ 0 ∷ 0 ∷ 0 ∷ 0 ∷ 0 ∷ 0 ∷ 1 ∷ []
+
 unfoldable pub readings : List Read
 readings =
-    group6250 (825 ∷ 827 ∷ 818 ∷ 827 ∷ 825 ∷ 825 ∷ 825 ∷ 827 ∷ 750 ∷ []) 0 (delivered (1 ∷ 1 ∷ [])) (0x01 ∷ [])
+    group6250 (825 ∷ 827 ∷ 818 ∷ 827 ∷ 825 ∷ 825 ∷ 825 ∷ 827 ∷ 750 ∷ []) 0 (delivered (1 ∷ 1 ∷ in0)) (0x01 ∷ [])
     ∷ group6250 (825 ∷ 827 ∷ 818 ∷ 827 ∷ 825 ∷ 825 ∷ 825 ∷ 827 ∷ 825 ∷ []) 0 (refused 5 0) []
-    ∷ group6250 (825 ∷ 827 ∷ 818 ∷ 827 ∷ 825 ∷ 825 ∷ 825 ∷ 827 ∷ 825 ∷ []) 257 (delivered (1 ∷ 2 ∷ [])) (0x01 ∷ [])
-    ∷ group6250 (0 ∷ 827 ∷ 818 ∷ 827 ∷ 825 ∷ 825 ∷ 825 ∷ 827 ∷ 750 ∷ []) 0 (delivered (1 ∷ 1 ∷ [])) (0x01 ∷ [])
+    ∷ group6250 (825 ∷ 827 ∷ 818 ∷ 827 ∷ 825 ∷ 825 ∷ 825 ∷ 827 ∷ 825 ∷ []) 257 (delivered (1 ∷ 2 ∷ in0and8)) (0x01 ∷ [])
+    ∷ group6250 (0 ∷ 827 ∷ 818 ∷ 827 ∷ 825 ∷ 825 ∷ 825 ∷ 827 ∷ 750 ∷ []) 0 (delivered (1 ∷ 1 ∷ in0)) (0x01 ∷ [])
     ∷ group6250 (0 ∷ 0 ∷ 0 ∷ 827 ∷ 825 ∷ 825 ∷ 825 ∷ 827 ∷ 750 ∷ []) 0 (refused 4 0) []
-    ∷ group6250 (850 ∷ 827 ∷ 818 ∷ 827 ∷ 825 ∷ 825 ∷ 825 ∷ 827 ∷ 750 ∷ []) 8 (delivered (1 ∷ 0 ∷ [])) (0x01 ∷ [])
-    ∷ group6250 (825 ∷ 827 ∷ 818 ∷ 827 ∷ 825 ∷ 825 ∷ 825 ∷ 827 ∷ 750 ∷ []) 8 (delivered (1 ∷ 1 ∷ [])) (0x01 ∷ [])
+    ∷ group6250 (850 ∷ 827 ∷ 818 ∷ 827 ∷ 825 ∷ 825 ∷ 825 ∷ 827 ∷ 750 ∷ []) 8 (delivered (1 ∷ 0 ∷ none)) (0x01 ∷ [])
+    ∷ group6250 (825 ∷ 827 ∷ 818 ∷ 827 ∷ 825 ∷ 825 ∷ 825 ∷ 827 ∷ 750 ∷ []) 8 (delivered (1 ∷ 1 ∷ in0)) (0x01 ∷ [])
     ∷ group6250 (818 ∷ 819 ∷ 819 ∷ 827 ∷ 825 ∷ 825 ∷ 825 ∷ 825 ∷ 510 ∷ []) 0 (refused 6 0) []
-    ∷ group6250 (825 ∷ 818 ∷ 819 ∷ 827 ∷ 825 ∷ 825 ∷ 825 ∷ 825 ∷ 825 ∷ []) 0 (delivered (0 ∷ 1 ∷ [])) []
-    ∷ characters800 (131 ∷ 468 ∷ 148 ∷ 248 ∷ 202 ∷ 510 ∷ 47 ∷ []) (delivered (5 ∷ 5 ∷ 1 ∷ [])) (131 ∷ 212 ∷ 148 ∷ 248 ∷ 234 ∷ [])
-    ∷ characters800 (131 ∷ 468 ∷ 148 ∷ 248 ∷ 234 ∷ 510 ∷ 46 ∷ []) (delivered (5 ∷ 0 ∷ 1 ∷ [])) (131 ∷ 212 ∷ 148 ∷ 248 ∷ 234 ∷ [])
+    ∷ group6250 (825 ∷ 818 ∷ 819 ∷ 827 ∷ 825 ∷ 825 ∷ 825 ∷ 825 ∷ 825 ∷ []) 0 (delivered (0 ∷ 1 ∷ in8)) []
+    ∷ characters800 (131 ∷ 468 ∷ 148 ∷ 248 ∷ 202 ∷ 510 ∷ 47 ∷ []) (delivered (5 ∷ 5 ∷ 1 ∷ in5)) (131 ∷ 212 ∷ 148 ∷ 248 ∷ 234 ∷ [])
+    ∷ characters800 (131 ∷ 468 ∷ 148 ∷ 248 ∷ 234 ∷ 510 ∷ 46 ∷ []) (delivered (5 ∷ 0 ∷ 1 ∷ in0)) (131 ∷ 212 ∷ 148 ∷ 248 ∷ 234 ∷ [])
     ∷ characters800 (128 ∷ 468 ∷ 148 ∷ 248 ∷ 234 ∷ 510 ∷ 47 ∷ []) (refused 7 0) []
     ∷ []
 
@@ -111,9 +127,10 @@ logs =
     ++ logRows (825 ∷ 827 ∷ 818 ∷ 827 ∷ 825 ∷ 825 ∷ 825 ∷ 827 ∷ 825 ∷ []) 0 (refused 5 0) []
     ++ logRows (818 ∷ 819 ∷ 819 ∷ 827 ∷ 825 ∷ 825 ∷ 825 ∷ 825 ∷ 510 ∷ []) 0 (refused 6 0) []
     ++ logRows (825 ∷ 818 ∷ 819 ∷ 827 ∷ 825 ∷ 825 ∷ 825 ∷ 825 ∷ 825 ∷ []) 0 (delivered (3 ∷ [])) (1 ∷ 0 ∷ 1 ∷ [])
-    ++ row (readLog 1 (1 ∷ 1 ∷ 1 ∷ [])) (delivered []) (257 ∷ [])
-    ∷ row (readLog 9 (128 ∷ 1 ∷ 1 ∷ 0 ∷ 255 ∷ 1 ∷ [])) (delivered []) (0 ∷ 0 ∷ 0 ∷ 0 ∷ 0 ∷ 0 ∷ 0 ∷ 1 ∷ 511 ∷ [])
-    ∷ row (readLog 8 (0 ∷ [])) (delivered []) (0 ∷ 0 ∷ 0 ∷ 0 ∷ 0 ∷ 0 ∷ 0 ∷ 0 ∷ [])
+    ++ row (readLog 1 (1 ∷ 1 ∷ 1 ∷ [])) (delivered in0and8) (257 ∷ [])
+    ∷ row (readLog 9 (128 ∷ 1 ∷ 1 ∷ 0 ∷ 255 ∷ 1 ∷ [])) (delivered (2 ∷ 1 ∷ 1 ∷ 1 ∷ 1 ∷ 1 ∷ 1 ∷ 1 ∷ 1 ∷ []))
+    (0 ∷ 0 ∷ 0 ∷ 0 ∷ 0 ∷ 0 ∷ 0 ∷ 1 ∷ 511 ∷ [])
+    ∷ row (readLog 8 (0 ∷ [])) (delivered none) (0 ∷ 0 ∷ 0 ∷ 0 ∷ 0 ∷ 0 ∷ 0 ∷ 0 ∷ [])
     ∷ row (readLog 11 (0 ∷ 0 ∷ [])) (refused 2 0) []
     ∷ row (readLog 0 []) (refused 9 0) []
     ∷ row (readLog 9 (0 ∷ 2 ∷ 1 ∷ 0 ∷ [])) (refused 9 0) []
@@ -131,11 +148,11 @@ copyRows characters answer front =
 
 unfoldable pub copies : List Row
 copies =
-    copyRows (131 ∷ 468 ∷ 148 ∷ 248 ∷ 202 ∷ 510 ∷ 47 ∷ []) (delivered (5 ∷ 5 ∷ 1 ∷ 1 ∷ []))
+    copyRows (131 ∷ 468 ∷ 148 ∷ 248 ∷ 202 ∷ 510 ∷ 47 ∷ []) (delivered (5 ∷ 5 ∷ 1 ∷ in5 ++ (1 ∷ [])))
     (851 ∷ 858 ∷ 731 ∷ 873 ∷ 763 ∷ 890 ∷ 698 ∷ 506 ∷ 949 ∷ [])
-    ++ copyRows (131 ∷ 468 ∷ 148 ∷ 248 ∷ 234 ∷ 510 ∷ 46 ∷ []) (delivered (5 ∷ 0 ∷ 1 ∷ 1 ∷ []))
+    ++ copyRows (131 ∷ 468 ∷ 148 ∷ 248 ∷ 234 ∷ 510 ∷ 46 ∷ []) (delivered (5 ∷ 0 ∷ 1 ∷ in0 ++ (1 ∷ [])))
     (851 ∷ 858 ∷ 731 ∷ 873 ∷ 763 ∷ 890 ∷ 698 ∷ 506 ∷ 949 ∷ [])
-    ++ copyRows (256 ∷ 430 ∷ 174 ∷ []) (delivered (1 ∷ 9 ∷ 0 ∷ 1 ∷ [])) (818 ∷ 827 ∷ 818 ∷ 827 ∷ 825 ∷ 825 ∷ 825 ∷ 825 ∷ 495 ∷ [])
+    ++ copyRows (256 ∷ 430 ∷ 174 ∷ []) (delivered (1 ∷ 9 ∷ 0 ∷ none ++ (1 ∷ []))) (818 ∷ 827 ∷ 818 ∷ 827 ∷ 825 ∷ 825 ∷ 825 ∷ 825 ∷ 495 ∷ [])
     ++ copyRows (128 ∷ 468 ∷ 148 ∷ 248 ∷ 234 ∷ 510 ∷ 47 ∷ []) (refused 7 0) []
     ++ copyRows (256 ∷ 512 ∷ 174 ∷ []) (refused 3 1) []
     ++ copyRows (600 ∷ 412 ∷ 328 ∷ 458 ∷ 214 ∷ 52 ∷ 296 ∷ 456 ∷ 13 ∷ []) (refused 2 0) []

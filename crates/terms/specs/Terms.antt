@@ -9,26 +9,27 @@ use Prim.{Unit}
 use Prim.Native.Nat.{ℕ, _-_, _*_, _<_, _≤_}
 use lib.Dec.{eqb}
 use lib.ListN.{length, getD, take, drop}
+use Rattle.indexed.specs.List.{total}
 use Rattle.answer.specs.Answer.{Answer, delivered, refused, refusals, outputAfter}
 use Rattle.copy800.specs.Copy.{copySpace, copiedRecord, copyAnswer}
 use Rattle.rectangular.specs.Constants.{tracks, numbersPerGroup, mostWord, mostMap}
 use Rattle.record6250.specs.Fits as six
 use Rattle.record6250.specs.Fits.{mapsChanged}
 use Rattle.record6250.specs.Picture.{groupRead, pictureMaps, turnedNumbers}
-use Rattle.record6250.specs.Read.{readGroup, changedMaps}
+use Rattle.record6250.specs.Read.{readGroup, changedMaps, trackChanges}
 use Rattle.record6250.specs.Record.{groupsFor}
 use Rattle.record800.specs.Fits as eight
 use Rattle.record800.specs.Read.{picture}
 use Rattle.register.specs.Bit.{bit}
 use Rattle.sense_log.specs.Back.{readLogAnswer, mapsOf}
-use Rattle.sense_log.specs.Log.{logSpace, logOf}
+use Rattle.sense_log.specs.Log.{logSpace, logOf, marks, trackMarks}
 use Rattle.sense_log.specs.Written.{logAnswer, readingLog}
 use Rattle.track_order.specs.declared.Toward.{Toward}
 use Rattle.track_order.specs.Card.{Good, InverseCard}
 use Rattle.track_order.specs.Moved.{cardWordsAnswer, cardMapAnswer, inverseAnswer}
 use Rattle.track_order.specs.Order.{back, movedWords, movedMap}
 use Rattle.terms.specs.Call.{Call, write, read, log, readLog, moveWords, moveMap, invertCard, copy, resultOf, places}
-use Rattle.terms.specs.Reading.{Density, bpi6250, bpi800, Reading, at6250, at800, density, isBackward, received, IsData, writtenRecord, turned, undamaged, Enough, Passes, Fits, OneFits, told, unchanged, lengthTold, changesTold, readAnswer, readData}
+use Rattle.terms.specs.Reading.{Density, bpi6250, bpi800, Reading, at6250, at800, density, isBackward, received, IsData, writtenRecord, turned, undamaged, Enough, Passes, Fits, OneFits, told, unchanged, lengthTold, trackTold, changesTold, countsTold, readAnswer, readData}
 
 -- ---- the first term
 
@@ -62,6 +63,13 @@ pub record Writes (d : Density) (bytes : List ℕ) (answer : Answer) (before aft
   pub is-record : (figures : List ℕ) → answer ≡ delivered figures → recordStored d figures after ≡ writtenRecord d bytes
   pub reads-back : IsData d bytes → (figures : List ℕ) → answer ≡ delivered figures → ReadsBack d (recordStored d figures after) bytes
 
+-- Of the counts that a reader tells (document 02, request 2.7): there are nine, "one an algebraic track"; "The sum is their total"; "For 800 only
+-- the mended track's count can be above zero".
+pub record Counts (d : Density) (figures : List ℕ) : Type 0 where
+  pub nine : length (countsTold d figures) ≡ tracks
+  pub sum : total tracks (λ t. getD (countsTold d figures) t 0) ≡ changesTold d figures
+  pub one-track : d ≡ bpi800 → (t : ℕ) → t < tracks → (t ≡ trackTold figures → ⊥) → getD (countsTold d figures) t 0 ≡ 0
+
 -- Of a reader, the same; and "A record read forward with no change, when its data are written, gives the words or characters that were read.
 -- Reading backward answers as reading forward does."
 pub record Reads (r : Reading) (answer : Answer) (before after : List ℕ) : Type 0 where
@@ -70,20 +78,26 @@ pub record Reads (r : Reading) (answer : Answer) (before after : List ℕ) : Typ
   pub unchanged-written : isBackward r ≡ false → (figures : List ℕ) → answer ≡ delivered figures → changesTold (density r) figures ≡ 0
       → IsData (density r) (take (lengthTold figures) after) × (writtenRecord (density r) (take (lengthTold figures) after) ≡ received r)
   pub as-turned : (answer ≡ readAnswer (turned r) (length before)) × (after ≡ outputAfter answer (readData (turned r)) before)
+  pub counted : (figures : List ℕ) → answer ≡ delivered figures → Counts (density r) figures
 
 -- Of a log that is written (document 02, request 2.1): what is stored, read back, is delivered with the maps of the reading's changed
--- tracks, and a backward reading's log is that of the same turned forward.
+-- tracks, and tells the marks of each track, "which for a reading's own log are these counts" (request 2.7), those that a reader tells of the
+-- reading; and a backward reading's log is that of the same turned forward.
 pub record Logs (backward : Bool) (words maps : List ℕ) (answer : Answer) (before after : List ℕ) : Type 0 where
   pub reads-back : (figures : List ℕ) → answer ≡ delivered figures → (space : ℕ) → length maps ≤ space
-      → (readLogAnswer (length maps) (take (lengthTold figures) after) space ≡ delivered [])
+      → (readLogAnswer (length maps) (take (lengthTold figures) after) space ≡ delivered (trackChanges backward words maps))
       × (mapsOf (length maps) (take (lengthTold figures) after) ≡ changedMaps backward words maps)
+  pub as-counted : (figures : List ℕ) → answer ≡ delivered figures → (space : ℕ) → Enough (at6250 backward words maps) space
+      → (told : List ℕ) × (readAnswer (at6250 backward words maps) space ≡ delivered told) × (countsTold bpi6250 told ≡ trackChanges backward words maps)
   pub as-turned : (answer ≡ logAnswer (not backward) (turnedNumbers words) (pictureMaps true maps) (length before))
       × (after ≡ outputAfter answer (readingLog (not backward) (turnedNumbers words) (pictureMaps true maps)) before)
 
--- Of one that is read back: writing the maps that are delivered gives the log, so that one set of changes has one log.
-unfoldable pub LogsAgain : ℕ → List ℕ → Answer → List ℕ → Type 0
-LogsAgain groups bytes answer after =
-    ((k : ℕ) → getD bytes k 0 < 256) → (figures : List ℕ) → answer ≡ delivered figures → logOf (take groups after) ≡ bytes
+-- Of one that is read back: writing the maps that are delivered gives the log, so that one set of changes has one log; what is told are the
+-- marks of each track in these maps, and their total is the number of marks.
+pub record LogsAgain (groups : ℕ) (bytes : List ℕ) (answer : Answer) (after : List ℕ) : Type 0 where
+  pub written-again : ((k : ℕ) → getD bytes k 0 < 256) → (figures : List ℕ) → answer ≡ delivered figures → logOf (take groups after) ≡ bytes
+  pub marks-told : (figures : List ℕ) → answer ≡ delivered figures
+      → (figures ≡ trackMarks (take groups after)) × (total tracks (λ t. getD figures t 0) ≡ marks (take groups after))
 
 -- Of nine words that are moved by a card (document 02, request 2.4: "moving nine words or a map out and back, unrefused, restores them under every
 -- good card"): they are delivered if the card is good, the words have no stray bits and there is space, and only by a good card; and what is
@@ -111,9 +125,12 @@ pub record Inverts (card : List ℕ) (answer : Answer) : Type 0 where
   pub only-inverse : (figures other : List ℕ) → answer ≡ delivered figures → InverseCard card other → other ≡ figures
   pub inverted-back : (figures : List ℕ) → answer ≡ delivered figures → inverseAnswer figures ≡ delivered card
 
--- the groups told of a copy, behind the figures of the reading, and the front of its output: so many groups of words
+-- the groups told of a copy, the figures of the reading in front of them, and the front of its output: so many groups of words
 unfoldable pub groupsTold : List ℕ → ℕ
 groupsTold figures = getD figures (length figures - 1) 0
+
+unfoldable pub readingTold : List ℕ → List ℕ
+readingTold figures = take (length figures - 1) figures
 
 unfoldable pub copyStored : List ℕ → List ℕ → List ℕ
 copyStored figures after = take (numbersPerGroup * groupsTold figures) after
@@ -132,6 +149,7 @@ pub record Copies (backward : Bool) (characters : List ℕ) (answer : Answer) (b
       × (after ≡ writtenRecord bpi6250 bytes ++ drop (length (writtenRecord bpi6250 bytes)) before)
   pub as-turned : (answer ≡ copyAnswer (not backward) (picture true characters) (length before))
       × (after ≡ outputAfter answer (copiedRecord (not backward) (picture true characters)) before)
+  pub counted : (figures : List ℕ) → answer ≡ delivered figures → Counts bpi800 (readingTold figures)
 
 unfoldable pub SecondTerm : Call → Answer → List ℕ → List ℕ → Type 0
 SecondTerm (write d bytes) answer before after = Writes d bytes answer before after

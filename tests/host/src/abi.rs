@@ -13,6 +13,7 @@ extern "C" {
         output_space: usize,
         size: *mut usize,
         changes: *mut usize,
+        counts: *mut usize,
         place: *mut usize,
     ) -> u16;
     pub fn rindthok_read6250_backward(
@@ -24,6 +25,7 @@ extern "C" {
         output_space: usize,
         size: *mut usize,
         changes: *mut usize,
+        counts: *mut usize,
         place: *mut usize,
     ) -> u16;
     pub fn rindthok_log6250_forward(
@@ -46,7 +48,15 @@ extern "C" {
         length: *mut usize,
         place: *mut usize,
     ) -> u16;
-    pub fn rindthok_read_log(groups: usize, log: *const u8, log_length: usize, maps: *mut u16, map_space: usize, place: *mut usize) -> u16;
+    pub fn rindthok_read_log(
+        groups: usize,
+        log: *const u8,
+        log_length: usize,
+        maps: *mut u16,
+        map_space: usize,
+        counts: *mut usize,
+        place: *mut usize,
+    ) -> u16;
     pub fn rindthok_write800(bytes: *const u8, byte_count: usize, characters: *mut u16, character_space: usize, count: *mut usize, place: *mut usize) -> u16;
     pub fn rindthok_read800_forward(
         characters: *const u16,
@@ -56,6 +66,7 @@ extern "C" {
         size: *mut usize,
         track: *mut usize,
         changes: *mut usize,
+        counts: *mut usize,
         place: *mut usize,
     ) -> u16;
     pub fn rindthok_read800_backward(
@@ -66,6 +77,7 @@ extern "C" {
         size: *mut usize,
         track: *mut usize,
         changes: *mut usize,
+        counts: *mut usize,
         place: *mut usize,
     ) -> u16;
     pub fn rindthok_copy800_forward(
@@ -76,6 +88,7 @@ extern "C" {
         size: *mut usize,
         track: *mut usize,
         changes: *mut usize,
+        counts: *mut usize,
         groups: *mut usize,
         place: *mut usize,
     ) -> u16;
@@ -87,6 +100,7 @@ extern "C" {
         size: *mut usize,
         track: *mut usize,
         changes: *mut usize,
+        counts: *mut usize,
         groups: *mut usize,
         place: *mut usize,
     ) -> u16;

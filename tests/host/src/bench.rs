@@ -4,7 +4,7 @@
 //! the documents have them; the counts of groups that are taken for another are ours.
 
 use crate::damage6250::make_even;
-use crate::library::{self, Answer, Direction};
+use crate::library::{self, only, Answer, Direction};
 use crate::reading6250::turned;
 use crate::record6250::{word, written};
 use crate::{reading800, record800};
@@ -48,7 +48,7 @@ fn written_whole(length: usize) -> bool {
     let answer = library::write6250(&data, &mut words);
     let mut after = written(&data);
     after.resize(words.len(), LENT);
-    answer == Answer::Delivered(vec![586]) && words == after && reads(&words[..9 * 586], Answer::Delivered(vec![length as u64, 0]), &data)
+    answer == Answer::Delivered(vec![586]) && words == after && reads(&words[..9 * 586], Answer::counted(&[length as u64, 0], [0; 9]), &data)
 }
 
 fn refused_whole(length: usize) -> bool {
@@ -61,7 +61,8 @@ fn even_record(length: usize) -> bool {
     let data: Vec<u8> = (0..length).map(|k| (k % 251) as u8).collect();
     let mut words = written(&data);
     make_even(&mut words);
-    reads(&words, Answer::Delivered(vec![length as u64, words.len() as u64 / 9]), &data)
+    let groups = words.len() as u64 / 9;
+    reads(&words, Answer::counted(&[length as u64, groups], only(8, groups)), &data)
 }
 
 /// Two groups of even parity in track 8, and one more wrong track in the first: how many of the legal words that it can
@@ -125,7 +126,7 @@ fn copies800(characters: &[u16], want: Answer, words: &[u16]) -> bool {
 fn writes_zero() -> bool {
     let mut characters = [LENT; 4];
     let answer = library::write800(&[0], &mut characters);
-    answer == Answer::Delivered(vec![3]) && characters == [256, 430, 174, LENT] && reads800(&characters[..3], Answer::Delivered(vec![1, 9, 0]), &[0])
+    answer == Answer::Delivered(vec![3]) && characters == [256, 430, 174, LENT] && reads800(&characters[..3], Answer::counted(&[1, 9, 0], [0; 9]), &[0])
 }
 
 /// Eight data bytes with track 0 wrong in the check character and in the characters of index 1, 2, 4, 6, 7 and 8.
@@ -150,7 +151,7 @@ pub fn readings800() -> Tried {
     tried.expect("one byte 0 is 256 430 174", writes_zero());
     for data in EIGHT_BYTES {
         let characters = wrong_at_g2(&data);
-        tried.expect("n = 8, wrong at G2: delivered", reads800(&characters, Answer::Delivered(vec![8, 0, 7]), &data));
+        tried.expect("n = 8, wrong at G2: delivered", reads800(&characters, Answer::counted(&[8, 0, 7], only(0, 7)), &data));
         let characters = with_longitudinal_wrong(characters);
         tried.expect("the longitudinal one wrong too: refusal 8", reads800(&characters, Answer::Refused(8, 0), &[]));
     }
@@ -160,10 +161,11 @@ pub fn readings800() -> Tried {
 pub fn copies() -> Tried {
     let mut tried = Tried::default();
     let one = record800::written(&[1]);
-    tried.expect("one byte 1 becomes the words of 0x01", copies800(&one, Answer::Delivered(vec![1, 9, 0, 1]), &ONE));
+    tried.expect("one byte 1 becomes the words of 0x01", copies800(&one, Answer::copied(&[1, 9, 0], [0; 9], 1), &ONE));
     for data in EIGHT_BYTES {
         let characters = wrong_at_g2(&data);
-        tried.expect("n = 8, wrong at G2: copied", copies800(&characters, Answer::Delivered(vec![8, 0, 7, 2]), &written(&data)));
+        let copied = Answer::copied(&[8, 0, 7], only(0, 7), 2);
+        tried.expect("n = 8, wrong at G2: copied", copies800(&characters, copied, &written(&data)));
         let characters = with_longitudinal_wrong(characters);
         tried.expect("the longitudinal one wrong too: refusal 8", copies800(&characters, Answer::Refused(8, 0), &[]));
     }
@@ -173,7 +175,7 @@ pub fn copies() -> Tried {
 pub fn readings6250() -> Tried {
     let mut tried = Tried::default();
     tried.expect("word 0 made 1,024: refusal 3", reads(&with_word_0(1024), Answer::Refused(3, 0), &[]));
-    tried.expect("word 0 made 1,023: no refusal 3", reads(&with_word_0(1023), Answer::Delivered(vec![1, 1]), &[1]));
+    tried.expect("word 0 made 1,023: no refusal 3", reads(&with_word_0(1023), Answer::counted(&[1, 1], only(0, 1)), &[1]));
     let stray_last = [ONE, ONE, with_word_0(1024)].concat();
     tried.expect("a stray word keeps its forward place", reads(&stray_last, Answer::Refused(3, 2), &[]));
     tried.expect("4,101 bytes are written", written_whole(4101));

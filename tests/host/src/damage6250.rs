@@ -1,7 +1,7 @@
 //! Seeded readings at 6250, damaged in the ways that document 01 speaks of and in combinations of them.
 //! The library and the reader of these tests answer each, and their outputs are compared whole.
 
-use crate::library::{self, Answer, Direction};
+use crate::library::{self, only, Answer, Direction};
 use crate::reading6250::{self, byte_of, turned};
 use crate::record6250::{body, word, words_of_body};
 use crate::vectors::{BEHIND, LENT_BYTE};
@@ -262,7 +262,7 @@ pub fn one_pointer(direction: Direction) -> Tried {
             answers[answer.number()] += 1;
             if way == 0 {
                 another += usize::from(changed && pointed != wrong && byte_of(number).is_some());
-                if answer != Answer::Delivered(vec![length as u64, u64::from(changed)]) {
+                if answer != Answer::counted(&[length as u64, u64::from(changed)], only(wrong, u64::from(changed))) {
                     tried.wrong.push(format!("track {pointed} pointed, track {wrong} made {number}: {answer:?}"));
                 }
             }

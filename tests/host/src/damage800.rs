@@ -14,7 +14,7 @@ const CASES: usize = 250_000;
 const READING: [usize; 6] = [0, 1, 2, 3, 7, 8];
 
 /// Short data mostly, and the limit: 2,048 bytes.
-fn random_data(seeded: &mut Seeded, case: usize) -> Vec<u8> {
+pub fn random_data(seeded: &mut Seeded, case: usize) -> Vec<u8> {
     let length = match case % 64 {
         0 => 2048 - [0, seeded.index(20)][seeded.index(2)],
         1..=3 => 1 + seeded.index(700),
@@ -26,7 +26,7 @@ fn random_data(seeded: &mut Seeded, case: usize) -> Vec<u8> {
 
 /// Places of a reading in which a track may be wrong: one, some of the last two, a few, or about half of all.
 /// A place may come twice, and the track is then right in it.
-fn some_places(seeded: &mut Seeded, length: usize) -> Vec<usize> {
+pub fn some_places(seeded: &mut Seeded, length: usize) -> Vec<usize> {
     match seeded.below(4) {
         0 => vec![seeded.index(length)],
         1 => vec![length - 1 - seeded.index(2), length - 1 - seeded.index(3)],
@@ -72,7 +72,7 @@ fn noise(seeded: &mut Seeded, characters: &mut [u16]) {
 
 /// Makes a track wrong in the characters whose indices are the powers of a multiple of G2: G2 times some powers.
 /// The number of wrong characters, the longitudinal one among them, is even mostly; then each track fits.
-fn multiple_of_g2(seeded: &mut Seeded, characters: &mut [u16]) {
+pub fn multiple_of_g2(seeded: &mut Seeded, characters: &mut [u16]) {
     let n = characters.len() - 2;
     if n < 8 {
         return one_track(seeded, characters);

@@ -52,8 +52,9 @@ fn read_back(tried: &mut Tried, case: &Case) -> Answer {
     let found = copying::found(case.direction, case.characters, case.space);
     let holds = match (&got, &found) {
         (Answer::Delivered(told), Ok((data, _))) => {
-            let gives = |record: &[u16]| reads(record, Answer::Delivered(vec![data.len() as u64, 0]), data);
-            words.get(..9 * told[3] as usize).is_some_and(gives)
+            let gives = |record: &[u16]| reads(record, Answer::counted(&[data.len() as u64, 0], [0; 9]), data);
+            let groups = told.last().expect("a copy tells its groups");
+            words.get(..9 * *groups as usize).is_some_and(gives)
         }
         (got, found) => found.as_ref().err() == Some(got),
     };
@@ -123,7 +124,7 @@ pub fn every_choice_of_faults() -> Tried {
         let spaces = if short { [0, least - 1] } else { [least, least + 1] };
         let want = match faults.iter().position(|&fault| fault) {
             Some(first) => REFUSALS[first].clone(),
-            None => Answer::Delivered(vec![n as u64, 9, 0, n as u64 / 7 + 1]),
+            None => Answer::copied(&[n as u64, 9, 0], [0; 9], n as u64 / 7 + 1),
         };
         let answers = both_ways(&mut tried, &reading, spaces);
         if answers.iter().any(|answer| *answer != want) {

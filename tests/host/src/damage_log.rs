@@ -21,7 +21,8 @@ fn random_groups(seeded: &mut Seeded, case: usize) -> usize {
     }
 }
 
-fn random_data(seeded: &mut Seeded, case: usize) -> Vec<u8> {
+/// Data of so many groups.
+pub fn random_data(seeded: &mut Seeded, case: usize) -> Vec<u8> {
     let length = 7 * random_groups(seeded, case) - 1 - seeded.index(7);
     (0..length).map(|_| seeded.next() as u8).collect()
 }
@@ -77,20 +78,21 @@ impl Seen {
     }
 }
 
-/// What reading back a delivered log must give: the maps that were changed, and as many marks as the reader tells changes.
+/// What reading back a delivered log must give: the maps that were changed, and as many marks as the reader tells changes, in all and
+/// of each track.
 fn read_back(direction: Direction, words: &[u16], maps: &[u16], log: &[u8]) -> Result<Vec<u16>, String> {
     let groups = maps.len();
     let (mut changed, mut after) = (vec![LENT; groups + BEHIND], vec![LENT; groups + BEHIND]);
     let got = library::read_log(groups, log, &mut changed[..groups]);
     let want = sense_log::read_back(groups, log, &mut after[..groups]);
-    if got != want || changed != after || got != Answer::Delivered(vec![]) {
+    let (Answer::Delivered(counts), true) = (&got, got == want && changed == after) else {
         return Err(format!("read back: {got:?} for {want:?}"));
-    }
+    };
     changed.truncate(groups);
     let mut data = vec![0; 7 * groups];
     let read = library::read6250(direction, words, maps, &mut data);
-    let told = matches!(&read, Answer::Delivered(figures) if figures[1] == marks(&changed));
-    if told { Ok(changed) } else { Err(format!("{} marks, read {read:?}", marks(&changed))) }
+    let told = matches!(&read, Answer::Delivered(figures) if figures[1] == marks(&changed) && figures[2..] == counts[..]);
+    if told { Ok(changed) } else { Err(format!("{} marks, {counts:?}, read {read:?}", marks(&changed))) }
 }
 
 /// One reading's log by the library and by the implementation of these tests.

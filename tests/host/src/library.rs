@@ -10,6 +10,16 @@ pub enum Answer {
 }
 
 impl Answer {
+    /// A delivery of a reader: its figures, and the nine counts behind them.
+    pub fn counted(figures: &[u64], counts: [u64; 9]) -> Answer {
+        Answer::Delivered([figures, &counts].concat())
+    }
+
+    /// A delivery of a copy: what the reading at 800 tells, and the groups behind it.
+    pub fn copied(figures: &[u64], counts: [u64; 9], groups: u64) -> Answer {
+        Answer::Delivered([figures, &counts, &[groups]].concat())
+    }
+
     /// The refusal's number, or 0.
     pub fn number(&self) -> usize {
         match self {
@@ -17,6 +27,11 @@ impl Answer {
             Answer::Refused(number, _) => usize::from(*number),
         }
     }
+}
+
+/// The nine counts where one track alone was changed, in so many words or characters; by a track 9, none was.
+pub fn only(track: usize, changes: u64) -> [u64; 9] {
+    std::array::from_fn(|counted| if counted == track { changes } else { 0 })
 }
 
 #[derive(Clone, Copy, Debug)]
@@ -96,17 +111,18 @@ pub fn write6250(bytes: &[u8], words: &mut [u16]) -> Answer {
     answer(status, place, || vec![groups as u64])
 }
 
-/// A delivery tells the data's length and the number of changed words.
+/// A delivery tells the data's length, the number of changed words, and how many of them each track has.
 pub fn read6250(direction: Direction, words: &[u16], maps: &[u16], output: &mut [u8]) -> Answer {
-    let (mut size, mut changes, mut place) = (KEPT, KEPT, usize::MAX);
+    let (mut size, mut changes, mut counts, mut place) = (KEPT, KEPT, Counts::lent(), usize::MAX);
     let call = match direction {
         Direction::Forward => rindthok_read6250_forward,
         Direction::Backward => rindthok_read6250_backward,
     };
     let (from, pointers, to) = (words.as_ptr(), maps.as_ptr(), output.as_mut_ptr());
-    let status = unsafe { call(from, words.len(), pointers, maps.len(), to, output.len(), &mut size, &mut changes, &mut place) };
-    assert!(status == 0 || (size, changes) == (KEPT, KEPT), "a refusal stores no value");
-    answer(status, place, || vec![size as u64, changes as u64])
+    let nine = counts.pointer();
+    let status = unsafe { call(from, words.len(), pointers, maps.len(), to, output.len(), &mut size, &mut changes, nine, &mut place) };
+    assert!(status == 0 || (size, changes) == (KEPT, KEPT) && counts.kept(), "a refusal stores no value");
+    answer(status, place, || [&numbers([size, changes])[..], &counts.told()].concat())
 }
 
 /// An input as C hands it over: where it has no elements, NULL.
@@ -127,11 +143,13 @@ pub fn log6250(direction: Direction, words: &[u16], maps: &[u16], log: &mut [u8]
     answer(status, place, || vec![length as u64])
 }
 
-/// A delivery has a map for each group, and tells nothing more.
+/// A delivery has a map for each group, and tells how many of them have each track.
 pub fn read_log(groups: usize, log: &[u8], maps: &mut [u16]) -> Answer {
-    let mut place = usize::MAX;
-    let status = unsafe { rindthok_read_log(groups, given(log), log.len(), maps.as_mut_ptr(), maps.len(), &mut place) };
-    answer(status, place, || vec![])
+    let (mut counts, mut place) = (Counts::lent(), usize::MAX);
+    let (to, nine) = (maps.as_mut_ptr(), counts.pointer());
+    let status = unsafe { rindthok_read_log(groups, given(log), log.len(), to, maps.len(), nine, &mut place) };
+    assert!(status == 0 || counts.kept(), "a refusal stores no value");
+    answer(status, place, || counts.told().to_vec())
 }
 
 /// A delivery tells the number of characters written.
@@ -143,35 +161,65 @@ pub fn write800(bytes: &[u8], characters: &mut [u16]) -> Answer {
     answer(status, place, || vec![count as u64])
 }
 
-/// A delivery tells the number of data bytes, the corrected track or 9, and the number of changed characters.
+/// A delivery tells the number of data bytes, the corrected track or 9, the number of changed characters, and how many of
+/// them each track has.
 pub fn read800(direction: Direction, characters: &[u16], output: &mut [u8]) -> Answer {
-    let (mut size, mut track, mut changes, mut place) = (KEPT, KEPT, KEPT, usize::MAX);
+    let (mut size, mut track, mut changes, mut counts, mut place) = (KEPT, KEPT, KEPT, Counts::lent(), usize::MAX);
     let call = match direction {
         Direction::Forward => rindthok_read800_forward,
         Direction::Backward => rindthok_read800_backward,
     };
-    let (from, to) = (characters.as_ptr(), output.as_mut_ptr());
-    let status = unsafe { call(from, characters.len(), to, output.len(), &mut size, &mut track, &mut changes, &mut place) };
-    assert!(status == 0 || (size, track, changes) == (KEPT, KEPT, KEPT), "a refusal stores no value");
-    answer(status, place, || vec![size as u64, track as u64, changes as u64])
+    let (from, to, nine) = (characters.as_ptr(), output.as_mut_ptr(), counts.pointer());
+    let status = unsafe { call(from, characters.len(), to, output.len(), &mut size, &mut track, &mut changes, nine, &mut place) };
+    let figures = [size, track, changes];
+    assert!(status == 0 || figures == [KEPT; 3] && counts.kept(), "a refusal stores no value");
+    answer(status, place, || [&numbers(figures)[..], &counts.told()].concat())
 }
 
 /// A delivery tells what a reading at 800 tells, and the number of groups written.
 pub fn copy800(direction: Direction, characters: &[u16], words: &mut [u16]) -> Answer {
-    let (mut size, mut track, mut changes, mut groups, mut place) = (KEPT, KEPT, KEPT, KEPT, usize::MAX);
+    let (mut size, mut track, mut changes, mut counts, mut groups, mut place) = (KEPT, KEPT, KEPT, Counts::lent(), KEPT, usize::MAX);
     let call = match direction {
         Direction::Forward => rindthok_copy800_forward,
         Direction::Backward => rindthok_copy800_backward,
     };
-    let (from, to) = (given(characters), words.as_mut_ptr());
-    let status = unsafe { call(from, characters.len(), to, words.len(), &mut size, &mut track, &mut changes, &mut groups, &mut place) };
-    let figures = [size, track, changes, groups];
-    assert!(status == 0 || figures == [KEPT; 4], "a refusal stores no value");
-    answer(status, place, || figures.map(|figure| figure as u64).to_vec())
+    let (from, to, nine) = (given(characters), words.as_mut_ptr(), counts.pointer());
+    let status = unsafe { call(from, characters.len(), to, words.len(), &mut size, &mut track, &mut changes, nine, &mut groups, &mut place) };
+    assert!(status == 0 || [size, track, changes, groups] == [KEPT; 4] && counts.kept(), "a refusal stores no value");
+    answer(status, place, || [&numbers([size, track, changes])[..], &counts.told(), &numbers([groups])].concat())
 }
 
 /// What lies in a number before a call that may store a value there.
 const KEPT: usize = 0x5A5A;
+
+/// The nine counts that a call is lent, with a number on either side that no call may reach. Before the call each has a value of its
+/// own, so that a store shows wherever it goes.
+struct Counts([usize; 11]);
+
+impl Counts {
+    fn lent() -> Counts {
+        Counts(std::array::from_fn(|place| KEPT + place))
+    }
+
+    fn pointer(&mut self) -> *mut usize {
+        self.0[1..].as_mut_ptr()
+    }
+
+    fn kept(&self) -> bool {
+        self.0 == Counts::lent().0
+    }
+
+    /// The counts that a delivery stored, track 0 first.
+    fn told(&self) -> [u64; 9] {
+        let [before, nine @ .., behind] = self.0;
+        assert_eq!([before, behind], [KEPT, KEPT + 10], "a delivery stores nine counts and nothing beside them");
+        numbers(nine)
+    }
+}
+
+fn numbers<const COUNT: usize>(figures: [usize; COUNT]) -> [u64; COUNT] {
+    figures.map(|figure| figure as u64)
+}
 
 fn answer(status: u16, place: usize, values: impl Fn() -> Vec<u64>) -> Answer {
     match status {

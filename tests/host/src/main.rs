@@ -3,6 +3,7 @@
 
 mod abi;
 mod bench;
+mod by_track;
 mod card;
 mod copying;
 mod damage6250;
@@ -253,6 +254,16 @@ fn suites_of_copying() -> Vec<Suite> {
     ])
 }
 
+fn suites_by_track() -> Vec<Suite> {
+    named([
+        ("weak tracks at 6250, and what their logs tell of each, forward", by_track::readings6250(Direction::Forward)),
+        ("weak tracks at 6250, and what their logs tell of each, backward", by_track::readings6250(Direction::Backward)),
+        ("one weak track at 800, read and copied, forward", by_track::readings800(Direction::Forward)),
+        ("one weak track at 800, read and copied, backward", by_track::readings800(Direction::Backward)),
+        ("as many changes of a track as there can be", by_track::most_changes()),
+    ])
+}
+
 fn suites_of_head_order() -> Vec<Suite> {
     named([
         ("every map to physical", every_map(Toward::Physical)),
@@ -289,6 +300,7 @@ fn main() {
         suites_of_the_log(),
         suites_at_800(),
         suites_of_copying(),
+        suites_by_track(),
         suites_of_head_order(),
         suites_of_cards(),
     ];

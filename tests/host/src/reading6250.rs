@@ -110,6 +110,12 @@ pub fn turned(words: &[u16], maps: &[u16]) -> (Vec<u16>, Vec<u16>) {
     (groups.flatten().map(|&word| reversed(word)).collect(), maps.iter().rev().copied().collect())
 }
 
+/// How many words of each track differ between a forward reading and a record.
+fn counted(words: &[u16], record: &[u16]) -> [u64; 9] {
+    let differs = |group: usize, track: usize| words[9 * group + track] != record[9 * group + track];
+    std::array::from_fn(|track| (0..record.len() / 9).filter(|&group| differs(group, track)).count() as u64)
+}
+
 pub fn read(direction: Direction, words: &[u16], maps: &[u16], output: &mut [u8]) -> Answer {
     let groups = maps.len();
     if groups < 1 || groups > 586 || words.len() != 9 * groups {
@@ -136,7 +142,8 @@ pub fn read(direction: Direction, words: &[u16], maps: &[u16], output: &mut [u8]
     let Some(data) = data_of(&whole) else {
         return Answer::Refused(6, 0);
     };
-    let changes = written(data).iter().zip(&words).filter(|(written, read)| written != read).count();
+    let record = written(data);
+    let changes = record.iter().zip(&words).filter(|(written, read)| written != read).count();
     output[..data.len()].copy_from_slice(data);
-    Answer::Delivered(vec![data.len() as u64, changes as u64])
+    Answer::counted(&[data.len() as u64, changes as u64], counted(&words, &record))
 }

@@ -43,6 +43,13 @@ fn compared(characters: &[u16], record: &[u16]) -> (u64, u64) {
     (track, differences.len() as u64)
 }
 
+/// How many bits of each track differ between a reading and a record.
+fn counted(characters: &[u16], record: &[u16]) -> [u64; 9] {
+    let bit = |character: u16, track: usize| character >> track & 1;
+    let differs = |place: usize, track: usize| bit(characters[place], track) != bit(record[place], track);
+    std::array::from_fn(|track| (0..record.len()).filter(|&place| differs(place, track)).count() as u64)
+}
+
 /// A reading in the other direction: the characters last first.
 pub fn turned(characters: &[u16]) -> Vec<u16> {
     characters.iter().rev().copied().collect()
@@ -60,7 +67,7 @@ pub fn in_direction(direction: Direction, characters: &[u16]) -> Vec<u16> {
 pub const LENGTHS: std::ops::RangeInclusive<usize> = 3..=2050;
 
 /// The data of the one written record that fits a reading within the limits, with the figures of its delivery: their
-/// length, the corrected track or 9, and the changes. If not one fits, or a character is stray, the refusal.
+/// length, the corrected track or 9, the changes, and those of each track. If not one fits, or a character is stray, the refusal.
 pub fn found(direction: Direction, characters: &[u16]) -> Result<(Vec<u8>, Vec<u64>), Answer> {
     let characters = in_direction(direction, characters);
     if let Some(place) = characters.iter().position(|&character| character > 511) {
@@ -71,7 +78,7 @@ pub fn found(direction: Direction, characters: &[u16]) -> Result<(Vec<u8>, Vec<u
         [record] => {
             let data = data_of(record);
             let (track, changes) = compared(&characters, record);
-            let figures = vec![data.len() as u64, track, changes];
+            let figures = [&[data.len() as u64, track, changes][..], &counted(&characters, record)].concat();
             Ok((data, figures))
         }
         _ => Err(Answer::Refused(8, 0)),

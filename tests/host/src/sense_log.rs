@@ -37,6 +37,11 @@ pub fn marks(maps: &[u16]) -> u64 {
     maps.iter().map(|map| (0..16).filter(|bit| map >> bit & 1 == 1).count() as u64).sum()
 }
 
+/// How many of the maps have each track's bit.
+pub fn marks_of_tracks(maps: &[u16]) -> [u64; 9] {
+    std::array::from_fn(|track| maps.iter().filter(|&map| map >> track & 1 == 1).count() as u64)
+}
+
 /// For each group in forward order, the tracks whose words differ from those of the record of these data.
 fn changed_tracks(direction: Direction, words: &[u16], maps: &[u16], data: &[u8]) -> Vec<u16> {
     let forward = match direction {
@@ -63,6 +68,7 @@ pub fn write(direction: Direction, words: &[u16], maps: &[u16], log: &mut [u8]) 
     };
     let changed = changed_tracks(direction, words, maps, &data[..figures[0] as usize]);
     assert_eq!(marks(&changed), figures[1], "the marks are the changes that the reader tells");
+    assert_eq!(marks_of_tracks(&changed), figures[2..], "and those of each track its counts");
     let whole = log_of(&changed);
     log[..whole.len()].copy_from_slice(&whole);
     Answer::Delivered(vec![whole.len() as u64])
@@ -118,5 +124,5 @@ pub fn read_back(groups: usize, log: &[u8], maps: &mut [u16]) -> Answer {
         return Answer::Refused(10, 0);
     };
     maps[..groups].copy_from_slice(&found);
-    Answer::Delivered(vec![])
+    Answer::Delivered(marks_of_tracks(&found).to_vec())
 }

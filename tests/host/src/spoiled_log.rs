@@ -3,7 +3,7 @@
 //! compared whole.
 
 use crate::library::{self, Answer};
-use crate::sense_log::{self, bit_map, log_of, two_bytes, MAPS};
+use crate::sense_log::{self, bit_map, log_of, marks_of_tracks, two_bytes, MAPS};
 use crate::vectors::{LogReader, BEHIND, LENT};
 use crate::{Seeded, Tried};
 use std::collections::HashMap;
@@ -275,7 +275,7 @@ fn compare_small(tried: &mut Tried, answers: &mut [usize; 11], reader: LogReader
     let want = match (logs.get(log), log.first().map(standing)) {
         (Some(maps), _) => {
             after[..groups].copy_from_slice(maps);
-            Answer::Delivered(vec![])
+            Answer::Delivered(marks_of_tracks(maps).to_vec())
         }
         (None, Some(marks)) if log.len() == 1 + 2 * marks => Answer::Refused(10, 0),
         _ => Answer::Refused(9, 0),

@@ -67,7 +67,7 @@ fn refused(field: &str) -> Option<Answer> {
     Some(Answer::Refused(told[0] as u16, told[1] as usize))
 }
 
-/// The answer that a case prescribes, with the figures of a delivery.
+/// The answer that a case prescribes, with the figures of a delivery, the nine counts among them where the library's call tells some.
 fn answer_of(field: &str) -> Answer {
     refused(field).unwrap_or_else(|| Answer::Delivered(numbers(field.strip_prefix("delivered").expect("an answer"))))
 }

@@ -6,10 +6,10 @@ use Rattle.bench.proofs.picture.draw.Statement.{statement}
 use Rattle.bench.proofs.picture.draw.Tie as tie
 
 abbrev Inv-loop : tie.InvT-loop
-Inv-loop page₀ held marks columns shown groups end₀ from₀ page end from = from ≤ columns
+Inv-loop page₀ held marks counts columns shown groups end₀ from₀ page end from = from ≤ columns
 
 abbrev μ-loop : tie.MeasureT-loop
-μ-loop page₀ held marks columns shown groups end₀ from₀ page end from = columns - from
+μ-loop page₀ held marks counts columns shown groups end₀ from₀ page end from = columns - from
 
 slice-aggregate-put : tie.Need-slice-aggregate-put Inv-loop μ-loop
 slice-aggregate-put c = search needs

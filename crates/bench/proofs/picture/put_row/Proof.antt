@@ -21,6 +21,9 @@ slice-aggregate-put c = sym (length-take-le _ _ (search needs))
 put-requires : tie.Need-put-requires
 put-requires c κs = search needs
 
+put-count-requires : tie.Need-put-count-requires
+put-count-requires c κs = search needs
+
 newline-requires : tie.Need-newline-requires
 newline-requires c κs = search needs
 
@@ -36,5 +39,6 @@ put-row-spec =
     array-share-prefix-row
     slice-aggregate-put
     put-requires
+    put-count-requires
     newline-requires
     returns)

@@ -7,10 +7,10 @@ use Rattle.bench.proofs.picture.put_rows.Statement.{statement}
 use Rattle.bench.proofs.picture.put_rows.Tie as tie
 
 abbrev Inv-loop : tie.InvT-loop
-Inv-loop page₀ held marks from count groups end₀ track₀ page end track = track ≤ tracks
+Inv-loop page₀ held marks counts from count groups end₀ track₀ page end track = track ≤ tracks
 
 abbrev μ-loop : tie.MeasureT-loop
-μ-loop page₀ held marks from count groups end₀ track₀ page end track = tracks - track
+μ-loop page₀ held marks counts from count groups end₀ track₀ page end track = tracks - track
 
 loop-holds : tie.Need-loop-holds Inv-loop μ-loop
 loop-holds c = search needs

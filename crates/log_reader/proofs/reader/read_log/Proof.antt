@@ -2,7 +2,7 @@
 -- Assumes nothing.
 use mathlib.Core.Path.{_≡_, sym, ap, _∙_}
 use mathlib.Core.Bool.{true}
-use mathlib.Core.List.{List, [], _++_}
+use mathlib.Core.List.{List, _++_}
 use Prim.Native.Nat.{ℕ}
 use native.Mathlib.Omega.{arith}
 use denote.Ref.{now}
@@ -12,6 +12,7 @@ use borrow.Author.Needs.{needs}
 use borrow.Author.Tests.{le-leb, lt-leb, not-true, not-false}
 use Rattle.answer.specs.Answer.{delivered, outputAfter}
 use Rattle.sense_log.specs.Back.{lengthSuits, contentSuits, mapsOf, readLogAnswer}
+use Rattle.sense_log.specs.Log.{trackMarks}
 use Rattle.sense_log.proofs.Answer.{back-no-space, back-no-length, back-no-content, back-all}
 use Rattle.sense_log.proofs.Back.{length-mapsOf}
 use Rattle.terms.proofs.Terms.{with-terms, refused-with-terms}
@@ -22,13 +23,13 @@ use Rattle.log_reader.proofs.reader.read_log.Tie as tie
 
 -- what a good log with space for its maps promises
 module _ (groups : ℕ) (log maps after : List ℕ) (room : leb groups (length maps) ≡ true) (suits : lengthSuits groups log ≡ true)
-    (good : contentSuits groups log ≡ true) where
+    (good : contentSuits groups log ≡ true) (marks : List ℕ) (counted : marks ≡ trackMarks (mapsOf groups log)) where
   all-delivered : after ≡ mapsOf groups log ++ drop groups maps
-      → (delivered [] ≡ readLogAnswer groups log (length maps))
-      × ((after ≡ outputAfter (delivered []) (mapsOf groups log) maps) × Terms (readLog groups log) (delivered []) maps after)
+      → (delivered marks ≡ readLogAnswer groups log (length maps))
+      × ((after ≡ outputAfter (delivered marks) (mapsOf groups log) maps) × Terms (readLog groups log) (delivered marks) maps after)
   unfolding answerTo resultOf outputAfter
   all-delivered stores =
-      with-terms (delivered []) maps after (readLog groups log) (sym (back-all groups log (length maps) room suits good))
+      with-terms (delivered marks) maps after (readLog groups log) (ap delivered counted ∙ sym (back-all groups log (length maps) room suits good))
       (stores ∙ ap (λ (n : ℕ). mapsOf groups log ++ drop n maps) (sym (length-mapsOf groups log)))
 
 refused-requires : tie.Need-refused-requires
@@ -88,7 +89,7 @@ returns-4 c =
     let suits = sym (two .before .length-suits .ensures) ∙ not-false _ (two .if2 .left) in
     let right = sym (at .before .content-suits .ensures) ∙ not-false _ (at .if3 .left) in
     all-delivered (args .groups) (now (args .log)) (now (args .maps)) _ (le-leb (args .groups) (length (now (args .maps))) (two .before .before .if1 .left))
-    suits right (done .ensures)
+    suits right _ (done .ensures .1) (done .ensures .0)
 
 pub read-log-spec : {M : Type 1} → statement M
 read-log-spec =

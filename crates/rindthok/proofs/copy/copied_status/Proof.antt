@@ -21,7 +21,7 @@ refused-status-requires c κs = search needs
 
 returns : tie.Need-returns
 returns c =
-    let known = c .before .before .before .before .before .before .answer .given in
+    let known = c .before .before .before .before .before .before .before .answer .given in
     let told = c .read-status .ensures in
     rw (known .1)
     record {

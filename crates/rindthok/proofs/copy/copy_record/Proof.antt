@@ -19,8 +19,8 @@ same-length c = search needs
 returns : tie.Need-returns
 unfolding answerTo resultOf
 returns c =
-    let args = c .before .before .before .before .before .before .before .before .before .before .before .before .args in
-    let done = c .before .before .before .before .before .before .before .before .copy-record in
+    let args = c .before .before .before .before .before .before .before .before .before .before .before .before .before .args in
+    let done = c .before .before .before .before .before .before .before .before .before .copy-record in
     called (copy (args .backward) (now (args .characters))) _ _ _ _ _ _ _ (done .ensures .0) (done .ensures .1 .0) (c .copied-status .ensures)
 
 pub copy-record-spec : {M : Type 1} → statement M

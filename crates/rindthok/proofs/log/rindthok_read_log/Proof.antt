@@ -19,8 +19,8 @@ same-length c = search needs
 returns : tie.Need-returns
 unfolding answerTo resultOf
 returns c =
-    let args = c .before .before .before .before .before .before .before .before .args in
-    let done = c .before .before .before .before .read-log in
+    let args = c .before .before .before .before .before .before .before .before .before .args in
+    let done = c .before .before .before .before .before .read-log in
     called (readLog (args .groups) (now (args .log))) _ _ _ _ _ _ _ (done .ensures .0) (done .ensures .1 .0) (c .back-status .ensures)
 
 pub rindthok-read-log-spec : {M : Type 1} → statement M

@@ -3,47 +3,54 @@
 -- Assumes nothing.
 use mathlib.Core.Path.{_≡_, refl, sym, ap, ap₂, _∙_}
 use mathlib.Core.Bool.{true}
-use mathlib.Core.List.{List, [], _∷_}
-use Prim.Native.Nat.{ℕ, _+_, _-_, _*_, _≤_}
+use mathlib.Core.List.{List, _∷_}
+use Prim.Native.Nat.{ℕ, _+_, _-_, _*_, _<_, _≤_}
 use native.Mathlib.Nat.{not-suc-le-zero}
 use native.Mathlib.Omega.{arith}
 use denote.Ref.{now}
-use lib.Count.{ones}
 use lib.ListN.{length, set, length-set, length-drop}
 use Rattle.indexed.specs.List.{tabulate, tabulateFrom, total, blocks}
 use Rattle.indexed.proofs.Part.{part-to-end, next-stored}
+use Rattle.indexed.proofs.Total.{total-most}
 use Rattle.answer.specs.Answer.{delivered}
+use Rattle.rectangular.specs.Constants.{tracks}
 use Rattle.rectangular.specs.Correction.{manyPointed, noGroup}
 use Rattle.judge6250.specs.Told.{toldJudged}
 use Rattle.record6250.specs.Group.{isCorrected, reasonOf, rightBytes}
-use Rattle.record6250.specs.Read.{judgement, changedTracks, changes}
+use Rattle.record6250.specs.Read.{judgement, changedTracks}
 use Rattle.record6250.proofs.FittingGroup.{length-rightBytes}
 use Rattle.record6250.proofs.Reading.{groups-within}
 use Rattle.indexed.proofs.Below.{one-more-below}
+use Rattle.register.proofs.Counts.{firstBits, bits-le, bits-more}
+use Rattle.track_counts.specs.Counts.{Holds}
+use Rattle.track_counts.proofs.Packed.{holds-same, holds-told, holds-room}
 use Rattle.scan6250.specs.Told.{bytesGathered, mapsGathered}
-use Rattle.scan6250.proofs.Scanned.{packed-bytes, told-corrected, told-changed, AllFit, stopped, ended, changedTo, changed-le, ones-changed-le, changed-more, maps-more}
+use Rattle.scan6250.proofs.Scanned.{packed-bytes, told-corrected, told-changed, AllFit, stopped, ended, all-changes, all-changed, maps-more}
 use borrow.Author.Needs.{needs}
 use Rattle.scan6250.proofs.gather.gather.Statement.{statement}
 use Rattle.scan6250.proofs.gather.gather.Tie as tie
 
 abbrev Inv-loop : tie.InvT-loop
-Inv-loop words maps backward table body₀ changed₀ changes₀ g₀ body changed changes g =
-    (g ≤ length maps) × AllFit backward words maps g × (changes ≡ changedTo backward words maps g)
+Inv-loop words maps backward table body₀ changed₀ counts₀ g₀ body changed counts g =
+    (g ≤ length maps) × AllFit backward words maps g × Holds counts (firstBits (changedTracks backward words maps) g)
     × (length body ≡ length body₀) × (body ≡ bytesGathered backward words maps g body₀)
     × (length changed ≡ length changed₀) × (changed ≡ mapsGathered backward words maps g changed₀)
 
 abbrev μ-loop : tie.MeasureT-loop
-μ-loop words maps backward table body₀ changed₀ changes₀ g₀ body changed changes g = length maps - g
+μ-loop words maps backward table body₀ changed₀ counts₀ g₀ body changed counts g = length maps - g
+
+none-requires : tie.Need-none-requires Inv-loop μ-loop
+none-requires c κs = search needs
 
 first-group-requires : tie.Need-first-group-requires Inv-loop μ-loop
 first-group-requires c κs = search needs
 
 loop-holds : tie.Need-loop-holds Inv-loop μ-loop
-unfolding bytesGathered mapsGathered blocks tabulate tabulateFrom changedTo total
-loop-holds c = rw (c .first-group .ensures) (search needs, λ j h. absurd (not-suc-le-zero h), refl, refl, refl, refl, refl)
+unfolding bytesGathered mapsGathered blocks tabulate tabulateFrom total
+loop-holds c = rw (c .first-group .ensures) (search needs, λ j h. absurd (not-suc-le-zero h), c .before .none .ensures, refl, refl, refl, refl)
 
 judge-at-requires : tie.Need-judge-at-requires Inv-loop μ-loop
-judge-at-requires c κs = let start = c .before .before .before .before .before .before .before .before in (start .pre .0, c .loop-test .taken, start .pre .3)
+judge-at-requires c κs = let start = c .before .before .before .before .before .before .before .before .before in (start .pre .0, c .loop-test .taken, start .pre .3)
 
 enum-known-right : tie.Need-enum-known-right Inv-loop μ-loop
 enum-known-right c = search needs
@@ -52,31 +59,32 @@ enum-known-right c = search needs
 mul-at : tie.Need-mul-at Inv-loop μ-loop
 mul-at c =
     let looped = c .before .before .before .before .before in
-    omega (arith, looped .loop-test .taken, looped .before .before .before .before .before .before .before .before .pre .1)
+    let start = looped .before .before .before .before .before .before .before .before .before in
+    omega (arith, looped .loop-test .taken, groups-within (start .args .backward) (now (start .args .words)) (now (start .args .maps)) (start .pre .0) .1)
 
 sub-unpack : tie.Need-sub-unpack Inv-loop μ-loop
 sub-unpack c =
     let looped = c .before .before .before .before .before in
-    omega (arith, looped .loop-test .taken, looped .before .before .before .before .before .before .before .before .pre .1)
+    omega (arith, looped .loop-test .taken, looped .before .before .before .before .before .before .before .before .before .pre .1)
 
 part-unpack-start : tie.Need-part-unpack-start Inv-loop μ-loop
 part-unpack-start c =
     let looped = c .before .before .before .before .before in
     let fits : looped .before .loop .g * 7 ≤ length (looped .before .loop .body) =
-    omega (arith, looped .loop-test .taken, looped .before .before .before .before .before .before .before .before .pre .1) in search needs
+    omega (arith, looped .loop-test .taken, looped .before .before .before .before .before .before .before .before .before .pre .1) in search needs
 
 part-unpack-end : tie.Need-part-unpack-end Inv-loop μ-loop
 part-unpack-end c =
     let looped = c .before .before .before .before .before in
     let fits : looped .before .loop .g * 7 ≤ length (looped .before .loop .body) =
-    omega (arith, looped .loop-test .taken, looped .before .before .before .before .before .before .before .before .pre .1) in search needs
+    omega (arith, looped .loop-test .taken, looped .before .before .before .before .before .before .before .before .before .pre .1) in search needs
 
 unpack-requires : tie.Need-unpack-requires Inv-loop μ-loop
 unpack-requires c κs =
     let looped = c .before .before .before .before .before .before in
     let at = looped .before .loop in
     rw (part-to-end (at .g * 7) (at .body))
-    (omega (arith, length-drop (at .g * 7) (at .body), looped .loop-test .taken, looped .before .before .before .before .before .before .before .before .pre .1))
+    (omega (arith, length-drop (at .g * 7) (at .body), looped .loop-test .taken, looped .before .before .before .before .before .before .before .before .before .pre .1))
 
 mul-changed : tie.Need-mul-changed Inv-loop μ-loop
 mul-changed c = search needs
@@ -84,34 +92,23 @@ mul-changed c = search needs
 slice-write-changed : tie.Need-slice-write-changed Inv-loop μ-loop
 slice-write-changed c =
     let looped = c .before .before .before .before .before .before .before .before .before in
-    omega (arith, looped .loop-test .taken, looped .before .loop .inv .5, looped .before .before .before .before .before .before .before .before .pre .2)
+    omega (arith, looped .loop-test .taken, looped .before .loop .inv .5, looped .before .before .before .before .before .before .before .before .before .pre .2)
 
-count-changed-requires : tie.Need-count-changed-requires Inv-loop μ-loop
-count-changed-requires c κs = search needs
-
-add-changes : tie.Need-add-changes Inv-loop μ-loop
-add-changes c =
-    let looped = c .before .before .before .before .before .before .before .before .before .before in
-    let start = looped .before .before .before .before .before .before .before .before in
+with-requires : tie.Need-with-requires Inv-loop μ-loop
+with-requires c κs =
+    let looped = c .before .before .before .before .before .before .before .before .before in
+    let start = looped .before .before .before .before .before .before .before .before .before in
     let words = now (start .args .words) in
     let maps = now (start .args .maps) in
     let b = start .args .backward in
     let at = looped .before .loop in
-    let told = c .before .before .before .before .before .before .before .before .before .judge-at in
-    let right = c .before .before .before .before .before .before .before .right .given in
-    omega (
-      arith,
-      c .count-changed .ensures ∙ ap ones (told-changed (changedTracks b words maps (at .g)) (told .result) (right .0 .0) (right .1) (told .ensures .1)),
-      changed-le b words maps (at .g),
-      ones-changed-le b words maps (at .g),
-      groups-within b words maps (start .pre .0) .1,
-      looped .loop-test .taken,
-    )
+    holds-room _ _ (at .inv .2)
+    (λ k. omega (arith, bits-le (changedTracks b words maps) (at .g) k, groups-within b words maps (start .pre .0) .1, looped .loop-test .taken))
 
 next-group-requires : tie.Need-next-group-requires Inv-loop μ-loop
 next-group-requires c κs =
     let looped = c .before .before .before .before .before .before .before .before .before .before in
-    let start = looped .before .before .before .before .before .before .before .before in
+    let start = looped .before .before .before .before .before .before .before .before .before in
     omega (arith, groups-within (start .args .backward) (now (start .args .words)) (now (start .args .maps)) (start .pre .0) .1, looped .loop-test .taken)
 
 loop-less : tie.Need-loop-less Inv-loop μ-loop
@@ -121,7 +118,7 @@ loop-again : tie.Need-loop-again Inv-loop μ-loop
 unfolding isCorrected bytesGathered
 loop-again c =
     let looped = c .before .before .before .before .before .before .before .before .before .before .before in
-    let start = looped .before .before .before .before .before .before .before .before in
+    let start = looped .before .before .before .before .before .before .before .before .before in
     let words = now (start .args .words) in
     let maps = now (start .args .maps) in
     let b = start .args .backward in
@@ -132,7 +129,7 @@ loop-again c =
     let fits = told-corrected (judgement b words maps (at .g)) (told .result) (right .0 .0) (right .1) (told .ensures .0) in rw (c .next-group .ensures) (
       search needs,
       one-more-below (at .g) (λ j. isCorrected (judgement b words maps j) ≡ true) (at .inv .1) (ap isCorrected fits),
-      ap₂ _+_ (at .inv .2) (c .before .count-changed .ensures ∙ ap ones changed) ∙ changed-more b words maps (at .g),
+      holds-same _ _ _ (bits-more (changedTracks b words maps) (at .g) _ changed) (c .before .with .ensures _ (at .inv .2)),
       c .before .before .before .body .given .1 ∙ at .inv .3,
       next-stored 7 (λ g. rightBytes (judgement b words maps g)) (λ k. length-rightBytes (judgement b words maps k)) (at .g)
           (now (start .args .body)) (at .body) _ _ (at .inv .4) (packed-bytes (right .0 .0 .group) ∙ ap rightBytes (sym fits)) (c .before .before .before .before .unpack .ensures),
@@ -157,7 +154,7 @@ returns : tie.Need-returns Inv-loop μ-loop
 unfolding isCorrected reasonOf
 returns c =
     let looped = c .before .before .before .before in
-    let start = looped .before .before .before .before .before .before .before .before in
+    let start = looped .before .before .before .before .before .before .before .before .before in
     let at = looped .before .loop in
     let judged = sym (c .before .before .before .judge-at .ensures .0) ∙ ap toldJudged (c .before .enum-told .given .1) in
     stopped (start .args .backward) (now (start .args .words)) (now (start .args .maps)) (at .g) (at .inv .1) (looped .loop-test .taken) manyPointed judged refl _
@@ -179,30 +176,39 @@ returns-2 : tie.Need-returns-2 Inv-loop μ-loop
 unfolding isCorrected reasonOf
 returns-2 c =
     let looped = c .before .before .before .before in
-    let start = looped .before .before .before .before .before .before .before .before in
+    let start = looped .before .before .before .before .before .before .before .before .before in
     let at = looped .before .loop in
     let judged = sym (c .before .before .before .judge-at .ensures .0) ∙ ap toldJudged (c .before .enum-told2 .given .1) in
     stopped (start .args .backward) (now (start .args .words)) (now (start .args .maps)) (at .g) (at .inv .1) (looped .loop-test .taken) noGroup judged refl _
     (c .unfit2 .ensures) _ _ _ _ (at .inv .4) (at .inv .6)
 
+sum-requires : tie.Need-sum-requires Inv-loop μ-loop
+sum-requires c κs = search needs
+
 same-length-5 : tie.Need-same-length-5 Inv-loop μ-loop
-same-length-5 c = c .before .loop .inv .3
+same-length-5 c = c .before .before .loop .inv .3
 
 same-length-6 : tie.Need-same-length-6 Inv-loop μ-loop
-same-length-6 c = c .before .loop .inv .5
+same-length-6 c = c .before .before .loop .inv .5
 
 returns-3 : tie.Need-returns-3 Inv-loop μ-loop
-unfolding changes changedTo
 returns-3 c =
-    let start = c .before .before .before .before .before .before .before .before .args in
-    let words = now (start .words) in
-    let maps = now (start .maps) in
-    let b = start .backward in
-    let at = c .before .loop in
+    let start = c .before .before .before .before .before .before .before .before .before .before in
+    let words = now (start .args .words) in
+    let maps = now (start .args .maps) in
+    let b = start .args .backward in
+    let at = c .before .before .loop in
     let all : at .g ≡ length maps = omega arith in
-    ended b words maps (λ j h. at .inv .1 j (rw all h)) _ (ap (λ (n : ℕ). delivered (n ∷ [])) (at .inv .2 ∙ ap (changedTo b words maps) all)) _ _ _ _
-    (at .inv .4 ∙ ap (λ (n : ℕ). bytesGathered b words maps n (now (start .body))) all)
-    (at .inv .6 ∙ ap (λ (n : ℕ). mapsGathered b words maps n (now (start .changed))) all)
+    let each : ℕ → ℕ → ℕ = firstBits (changedTracks b words maps) in
+    let few : (k : ℕ) → each (at .g) k ≤ 586 =
+    λ k. omega (arith, bits-le (changedTracks b words maps) (at .g) k, all, groups-within b words maps (start .pre .0) .1) in
+    let low : total 5 (each (at .g)) < 4095 = omega (arith, total-most 586 5 (each (at .g)) (λ k h. few k)) in
+    let high : total 5 (λ k. each (at .g) (5 + k)) < 4095 = omega (arith, total-most 586 5 (λ k. each (at .g) (5 + k)) (λ k h. few (5 + k))) in
+    let sum = c .sum .ensures _ (at .inv .2) low high ∙ ap (λ (n : ℕ). total 10 (each n)) all ∙ all-changes b words maps in
+    let counts = holds-told _ _ (at .inv .2) (λ k. omega (arith, few k)) ∙ ap (λ (n : ℕ). tabulate tracks (each n)) all ∙ all-changed b words maps in
+    ended b words maps (λ j h. at .inv .1 j (rw all h)) _ (ap₂ (λ (n : ℕ) (l : List ℕ). delivered (n ∷ l)) sum counts) _ _ _ _
+    (at .inv .4 ∙ ap (λ (n : ℕ). bytesGathered b words maps n (now (start .args .body))) all)
+    (at .inv .6 ∙ ap (λ (n : ℕ). mapsGathered b words maps n (now (start .args .changed))) all)
 
 pub gather-spec : {M : Type 1} → statement M
 gather-spec =
@@ -210,6 +216,7 @@ gather-spec =
     (tie.spec
     Inv-loop
     μ-loop
+    none-requires
     first-group-requires
     loop-holds
     judge-at-requires
@@ -221,8 +228,7 @@ gather-spec =
     unpack-requires
     mul-changed
     slice-write-changed
-    count-changed-requires
-    add-changes
+    with-requires
     next-group-requires
     loop-less
     loop-again
@@ -236,6 +242,7 @@ gather-spec =
     same-length-3
     same-length-4
     returns-2
+    sum-requires
     same-length-5
     same-length-6
     returns-3)

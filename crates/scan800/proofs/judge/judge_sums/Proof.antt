@@ -2,7 +2,6 @@
 -- Assumes nothing.
 use mathlib.Core.Path.{sym, ap₂, _∙_}
 use mathlib.Core.Bool.{true, false, _&&_}
-use mathlib.Core.List.{[], _∷_}
 use Prim.Native.Nat.{ℕ, _-_}
 use native.Mathlib.Omega.{arith}
 use borrow.Author.Needs.{needs}
@@ -12,6 +11,7 @@ use lib.ListN.{length}
 use Rattle.register.proofs.Shift.{shifts-lt}
 use Rattle.answer.specs.Answer.{delivered}
 use Rattle.cyclic.specs.Constants.{feedback}
+use Rattle.record800.specs.Read.{figuresOf}
 use Rattle.scan800.proofs.Deciding.{pattern-lt, pattern-back, clean-answer, none-answer, several-answer, one-answer, found-hold}
 use Rattle.record800.proofs.Picture.{lengths-within}
 use Rattle.scan800.proofs.judge.judge_sums.Statement.{statement}
@@ -78,7 +78,7 @@ returns-5 c =
     let sums = c .before .before .before .before .before .before .before .before .before .gather in
     let found = found-hold _ _ (sums .result) _ _ (sums .ensures) (c .before .before .before .before .before .before .unshifted .ensures) (c .before .before .before .before .located .ensures) in
     let n = length (now (c .before .before .before .before .before .before .before .before .before .before .before .before .args .characters)) - 2 in
-    ap₂ (λ (t w : ℕ). delivered (n ∷ t ∷ w ∷ [])) (found .1) (sums .ensures .3)
+    ap₂ (λ (t w : ℕ). delivered (figuresOf n t w)) (found .1) (sums .ensures .3)
     ∙ sym (one-answer _ _ (λ e. c .before .before .before .before .before .before .before .if1 .left (sums .ensures .3 ∙ e)) (sym (found .0) ∙ omega arith))
 
 pub judge-sums-spec : {M : Type 1} → statement M
