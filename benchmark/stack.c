@@ -14,7 +14,7 @@ static uint16_t words[WORDS], characters[CHARACTERS], turned[WORDS], nine[9];
 static rindthok_algebraic_map maps[GROUPS];
 enum { SIZES = 6 };
 static const size_t sizes[SIZES] = {1, 80, 400, 500, BYTES800, BYTES};
-static size_t byte_count, group_count, character_count, log_length, card_length, told[4], place;
+static size_t byte_count, group_count, character_count, log_length, card_length, told[4], counts[9], place;
 static const uint8_t *card;
 
 /* What is called: the call that is measured, or what stands in for it and notes where the stack stands. */
@@ -28,11 +28,11 @@ __asm__(".globl probe\nprobe:\n\tlea 8(%rsp), %rax\n\tmov %rax, at_call(%rip)\n\
 
 static void write6250(void) { CALL(rindthok_write6250)(bytes, byte_count, words, WORDS, told, &place); }
 static void write800(void) { CALL(rindthok_write800)(bytes, byte_count, characters, CHARACTERS, told, &place); }
-static void read6250(void) { CALL(rindthok_read6250_forward)(turned, 9 * group_count, maps, group_count, output, sizeof output, told, told + 1, &place); }
+static void read6250(void) { CALL(rindthok_read6250_forward)(turned, 9 * group_count, maps, group_count, output, sizeof output, told, told + 1, counts, &place); }
 static void log6250(void) { CALL(rindthok_log6250_forward)(turned, 9 * group_count, maps, group_count, output, sizeof output, told, &place); }
-static void read_log(void) { CALL(rindthok_read_log)(group_count, log_bytes, log_length, maps, GROUPS, &place); }
-static void read800(void) { CALL(rindthok_read800_forward)(turned, character_count, output, sizeof output, told, told + 1, told + 2, &place); }
-static void copy800(void) { CALL(rindthok_copy800_forward)(turned, character_count, words, WORDS, told, told + 1, told + 2, told + 3, &place); }
+static void read_log(void) { CALL(rindthok_read_log)(group_count, log_bytes, log_length, maps, GROUPS, counts, &place); }
+static void read800(void) { CALL(rindthok_read800_forward)(turned, character_count, output, sizeof output, told, told + 1, told + 2, counts, &place); }
+static void copy800(void) { CALL(rindthok_copy800_forward)(turned, character_count, words, WORDS, told, told + 1, told + 2, counts, told + 3, &place); }
 static void move_words(void) { CALL(rindthok_words_to_physical)(words, 9, nine, 9, &place); }
 static void move_map(void) { CALL(rindthok_map_to_algebraic)(5, maps, &place); }
 static void card_words(void) { CALL(rindthok_card_words_to_physical)(card, card_length, words, 9, nine, 9, &place); }

@@ -1,7 +1,7 @@
 //! The library's calls on slices, with answers in the form of the Rust implementations.
 
 use crate::abi::*;
-use crate::Answer;
+use crate::{Answer, Counts};
 
 fn answer(status: u16, place: usize, figures: [usize; 4]) -> Answer {
     match status {
@@ -16,11 +16,11 @@ pub fn write6250(bytes: &[u8], words: &mut [u16]) -> Answer {
     answer(status, place, [groups, 0, 0, 0])
 }
 
-pub fn read6250<const BACKWARD: bool>(words: &[u16], maps: &[u16], output: &mut [u8]) -> Answer {
+pub fn read6250<const BACKWARD: bool>(words: &[u16], maps: &[u16], output: &mut [u8], counts: &mut Counts) -> Answer {
     let (mut size, mut changes, mut place) = (0, 0, 0);
     let call = if BACKWARD { rindthok_read6250_backward } else { rindthok_read6250_forward };
-    let (from, pointers, to) = (words.as_ptr(), maps.as_ptr(), output.as_mut_ptr());
-    let status = unsafe { call(from, words.len(), pointers, maps.len(), to, output.len(), &mut size, &mut changes, &mut place) };
+    let (from, pointers, to, nine) = (words.as_ptr(), maps.as_ptr(), output.as_mut_ptr(), counts.as_mut_ptr());
+    let status = unsafe { call(from, words.len(), pointers, maps.len(), to, output.len(), &mut size, &mut changes, nine, &mut place) };
     answer(status, place, [size, changes, 0, 0])
 }
 
@@ -32,9 +32,10 @@ pub fn log6250<const BACKWARD: bool>(words: &[u16], maps: &[u16], log: &mut [u8]
     answer(status, place, [length, 0, 0, 0])
 }
 
-pub fn read_log(groups: usize, log: &[u8], maps: &mut [u16]) -> Answer {
+pub fn read_log(groups: usize, log: &[u8], maps: &mut [u16], counts: &mut Counts) -> Answer {
     let mut place = 0;
-    let status = unsafe { rindthok_read_log(groups, log.as_ptr(), log.len(), maps.as_mut_ptr(), maps.len(), &mut place) };
+    let (from, to, nine) = (log.as_ptr(), maps.as_mut_ptr(), counts.as_mut_ptr());
+    let status = unsafe { rindthok_read_log(groups, from, log.len(), to, maps.len(), nine, &mut place) };
     answer(status, place, [0; 4])
 }
 
@@ -45,19 +46,19 @@ pub fn write800(bytes: &[u8], characters: &mut [u16]) -> Answer {
     answer(status, place, [count, 0, 0, 0])
 }
 
-pub fn read800<const BACKWARD: bool>(characters: &[u16], output: &mut [u8]) -> Answer {
+pub fn read800<const BACKWARD: bool>(characters: &[u16], output: &mut [u8], counts: &mut Counts) -> Answer {
     let (mut size, mut track, mut changes, mut place) = (0, 0, 0, 0);
     let call = if BACKWARD { rindthok_read800_backward } else { rindthok_read800_forward };
-    let (from, to) = (characters.as_ptr(), output.as_mut_ptr());
-    let status = unsafe { call(from, characters.len(), to, output.len(), &mut size, &mut track, &mut changes, &mut place) };
+    let (from, to, nine) = (characters.as_ptr(), output.as_mut_ptr(), counts.as_mut_ptr());
+    let status = unsafe { call(from, characters.len(), to, output.len(), &mut size, &mut track, &mut changes, nine, &mut place) };
     answer(status, place, [size, track, changes, 0])
 }
 
-pub fn copy800<const BACKWARD: bool>(characters: &[u16], words: &mut [u16]) -> Answer {
+pub fn copy800<const BACKWARD: bool>(characters: &[u16], words: &mut [u16], counts: &mut Counts) -> Answer {
     let (mut size, mut track, mut changes, mut groups, mut place) = (0, 0, 0, 0, 0);
     let call = if BACKWARD { rindthok_copy800_backward } else { rindthok_copy800_forward };
-    let (from, to) = (characters.as_ptr(), words.as_mut_ptr());
-    let status = unsafe { call(from, characters.len(), to, words.len(), &mut size, &mut track, &mut changes, &mut groups, &mut place) };
+    let (from, to, nine) = (characters.as_ptr(), words.as_mut_ptr(), counts.as_mut_ptr());
+    let status = unsafe { call(from, characters.len(), to, words.len(), &mut size, &mut track, &mut changes, nine, &mut groups, &mut place) };
     answer(status, place, [size, track, changes, groups])
 }
 

@@ -1,7 +1,7 @@
 //! What is measured: records of two lengths at each density, clean and damaged, forward and backward, and what is moved
 //! between the orders.
 
-use crate::{calls, fast6250, fast800, fast_copy, fast_log, fast_order, Answer};
+use crate::{calls, fast6250, fast800, fast_copy, fast_log, fast_order, Answer, Counts};
 
 /// A seeded generator (splitmix64), so that every run measures the same records.
 pub struct Seeded(pub u64);
@@ -23,6 +23,8 @@ impl Seeded {
 #[derive(Clone, Copy, PartialEq)]
 pub enum Damage {
     Clean,
+    /// One track that nobody points is wrong in one group.
+    OneGroup,
     /// One track that nobody points is wrong in every group, or in half of the characters.
     OneTrack,
     /// One track that the drive points is wrong in every group.
@@ -65,6 +67,21 @@ pub struct Record {
     pub card: Vec<u8>,
 }
 
+/// What the calls write to: words or maps, bytes, and the nine counts.
+#[derive(Clone, PartialEq)]
+pub struct Output {
+    pub words: Vec<u16>,
+    pub bytes: Vec<u8>,
+    pub counts: Counts,
+}
+
+impl Output {
+    /// Space for every record, full of a number.
+    pub fn full_of(number: u8) -> Output {
+        Output { words: vec![u16::from(number); 5280], bytes: vec![number; 4104], counts: [usize::from(number); 9] }
+    }
+}
+
 fn data(seeded: &mut Seeded, length: usize) -> Vec<u8> {
     (0..length).map(|_| seeded.next() as u8).collect()
 }
@@ -98,12 +115,13 @@ fn record6250(seeded: &mut Seeded, length: usize, backward: bool, damage: Damage
     let second = if second < first { second } else { second + 1 };
     let (wrong, pointed): (&[usize], &[usize]) = match damage {
         Damage::Clean => (&[], &[]),
-        Damage::OneTrack => (&[first], &[]),
+        Damage::OneGroup | Damage::OneTrack => (&[first], &[]),
         Damage::OnePointed => (&[first], &[first]),
         Damage::AnotherPointed => (&[first], &[second]),
         Damage::TwoPointed => (&[first, second], &[first, second]),
     };
-    for g in 0..groups {
+    let places = if damage == Damage::OneGroup { vec![seeded.below(groups)] } else { (0..groups).collect() };
+    for g in places {
         for &track in wrong {
             tape[9 * g + track] = other_word(seeded, tape[9 * g + track]);
         }
@@ -150,6 +168,7 @@ pub fn reading(backward: bool, damage: Damage) -> String {
     let direction = if backward { "backward" } else { "forward" };
     let damage = match damage {
         Damage::Clean => "clean",
+        Damage::OneGroup => "one group wrong",
         Damage::OneTrack => "one track wrong",
         Damage::OnePointed => "one pointed",
         Damage::AnotherPointed => "another pointed",
@@ -197,16 +216,16 @@ impl Call {
     }
 
     /// The call by an implementation, on a record, into the outputs.
-    pub fn run(self, by: &Implementation, record: &Record, words: &mut [u16], bytes: &mut [u8]) -> Answer {
+    pub fn run(self, by: &Implementation, record: &Record, Output { words, bytes, counts }: &mut Output) -> Answer {
         match self {
             Call::Write6250 => (by.write6250)(&record.data, words),
-            Call::Read6250 { backward, .. } => by.read6250[usize::from(backward)](&record.tape, &record.maps, bytes),
+            Call::Read6250 { backward, .. } => by.read6250[usize::from(backward)](&record.tape, &record.maps, bytes, counts),
             Call::Log6250 { backward, .. } => by.log6250[usize::from(backward)](&record.tape, &record.maps, bytes),
-            Call::ReadLog { .. } => (by.read_log)(record.maps.len(), &record.log, words),
+            Call::ReadLog { .. } => (by.read_log)(record.maps.len(), &record.log, words, counts),
             Call::Write800 => (by.write800)(&record.data, words),
-            Call::Read800 { backward, .. } => by.read800[usize::from(backward)](&record.tape, bytes),
-            Call::Copy800 { backward, .. } => by.copy800[usize::from(backward)](&record.tape, words),
-            Call::ReadThenWrite { backward, .. } => match by.read800[usize::from(backward)](&record.tape, bytes) {
+            Call::Read800 { backward, .. } => by.read800[usize::from(backward)](&record.tape, bytes, counts),
+            Call::Copy800 { backward, .. } => by.copy800[usize::from(backward)](&record.tape, words, counts),
+            Call::ReadThenWrite { backward, .. } => match by.read800[usize::from(backward)](&record.tape, bytes, counts) {
                 Answer::Delivered([size, ..]) => (by.write6250)(&bytes[..size], words),
                 refusal => refusal,
             },
@@ -222,12 +241,12 @@ impl Call {
 /// The calls of one implementation: forward before backward, and to code order before to head order.
 pub struct Implementation {
     write6250: fn(&[u8], &mut [u16]) -> Answer,
-    read6250: [fn(&[u16], &[u16], &mut [u8]) -> Answer; 2],
+    read6250: [fn(&[u16], &[u16], &mut [u8], &mut Counts) -> Answer; 2],
     log6250: [fn(&[u16], &[u16], &mut [u8]) -> Answer; 2],
-    read_log: fn(usize, &[u8], &mut [u16]) -> Answer,
+    read_log: fn(usize, &[u8], &mut [u16], &mut Counts) -> Answer,
     write800: fn(&[u8], &mut [u16]) -> Answer,
-    read800: [fn(&[u16], &mut [u8]) -> Answer; 2],
-    copy800: [fn(&[u16], &mut [u16]) -> Answer; 2],
+    read800: [fn(&[u16], &mut [u8], &mut Counts) -> Answer; 2],
+    copy800: [fn(&[u16], &mut [u16], &mut Counts) -> Answer; 2],
     order: [fn(&[u16], &mut [u16]) -> Answer; 2],
     map_order: [fn(u16) -> Answer; 2],
     card_order: [fn(&[u8], &[u16], &mut [u16]) -> Answer; 2],

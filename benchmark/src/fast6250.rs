@@ -1,7 +1,7 @@
 //! Records at 6250 written for speed in Rust: every rule of document 01, track 8 as document 02 has it, tables made at
 //! compile time, the direction a constant of the compiled function. It shares no table and no code with the library.
 
-use crate::Answer;
+use crate::{Answer, Counts};
 
 const CODES: [u16; 16] = [25, 27, 18, 19, 29, 21, 22, 23, 26, 9, 10, 11, 30, 13, 14, 15];
 pub const MOST_GROUPS: usize = 586;
@@ -141,6 +141,38 @@ const fn reductions() -> [u8; 128] {
     table
 }
 
+/// The bits that one track's count takes among those of all nine: more than the groups of a record need.
+const LANE: usize = 14;
+
+/// Track i of a map, counted once, in lane i.
+const fn lanes() -> [u128; 512] {
+    let mut table = [0; 512];
+    let mut map = 0;
+    while map < 512 {
+        let mut track = 0;
+        while track < 9 {
+            table[map] |= ((map >> track & 1) as u128) << (LANE * track);
+            track += 1;
+        }
+        map += 1;
+    }
+    table
+}
+
+static LANES: [u128; 512] = lanes();
+
+/// The tracks of a map, to be added to those of other maps.
+#[inline(always)]
+pub fn once(map: u16) -> u128 {
+    LANES[usize::from(map & 511)]
+}
+
+/// The nine counts in such a sum.
+#[inline(always)]
+pub fn counted(sum: u128) -> Counts {
+    std::array::from_fn(|track| (sum >> (LANE * track)) as usize & ((1 << LANE) - 1))
+}
+
 static CONTRIBUTIONS: [[u64; 256]; 7] = contributions();
 static WORDS: [u16; 256] = words();
 pub static VALUES: [[u16; 1024]; 2] = [values(false), values(true)];
@@ -240,8 +272,9 @@ pub fn illegal_map(words: &[u16; 9], direction: usize) -> u16 {
     (0..9).fold(0, |map, j| map | (VALUES[direction][words[j] as usize & 1023] >> 8) << j)
 }
 
+/// Reads every group, and tells the sum of the changed tracks: a group in which nothing is changed adds nothing.
 #[inline(always)]
-fn read_groups<const BACKWARD: bool>(words: &[u16], maps: &[u16], body: &mut [u8]) -> Result<usize, Answer> {
+fn read_groups<const BACKWARD: bool>(words: &[u16], maps: &[u16], body: &mut [u8]) -> Result<u128, Answer> {
     let direction = usize::from(BACKWARD);
     let groups = maps.len();
     let mut changes = 0;
@@ -269,7 +302,7 @@ fn read_groups<const BACKWARD: bool>(words: &[u16], maps: &[u16], body: &mut [u8
                         columns ^= if track < 8 { BYTE_SPREADS[error as usize] << track } else { 0 };
                         changed |= u16::from(error != 0) << track;
                     }
-                    changes += changed.count_ones() as usize;
+                    changes += once(changed);
                 }
                 Err(number) => return Err(Answer::Refused(number, g)),
             }
@@ -279,7 +312,7 @@ fn read_groups<const BACKWARD: bool>(words: &[u16], maps: &[u16], body: &mut [u8
     Ok(changes)
 }
 
-pub fn read<const BACKWARD: bool>(words: &[u16], maps: &[u16], output: &mut [u8]) -> Answer {
+pub fn read<const BACKWARD: bool>(words: &[u16], maps: &[u16], output: &mut [u8], counts: &mut Counts) -> Answer {
     let groups = maps.len();
     if groups == 0 || groups > MOST_GROUPS || words.len() != 9 * groups {
         return Answer::Refused(1, 0);
@@ -304,5 +337,6 @@ pub fn read<const BACKWARD: bool>(words: &[u16], maps: &[u16], output: &mut [u8]
     }
     let length = size - 1 - padding;
     output[..length].copy_from_slice(&body[..length]);
-    Answer::Delivered([length, changes, 0, 0])
+    *counts = counted(changes);
+    Answer::Delivered([length, counts.iter().sum(), 0, 0])
 }

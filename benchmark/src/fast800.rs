@@ -1,7 +1,7 @@
 //! Records at 800 written for speed in Rust: every rule of document 01, tables made at compile time. It shares
 //! no table and no code with the library.
 
-use crate::Answer;
+use crate::{Answer, Counts};
 
 pub const MOST_DATA: usize = 2048;
 const GENERATOR: u16 = 633;
@@ -131,10 +131,20 @@ pub fn correct<const BACKWARD: bool>(characters: &[u16], track: usize, bytes: &m
     }
 }
 
-pub fn read<const BACKWARD: bool>(characters: &[u16], output: &mut [u8]) -> Answer {
+/// The counts of the tracks, of which only the corrected one's is above zero.
+pub fn counted(track: usize, wrong: usize) -> Counts {
+    let mut counts = [0; 9];
+    if let Some(count) = counts.get_mut(track) {
+        *count = wrong;
+    }
+    counts
+}
+
+pub fn read<const BACKWARD: bool>(characters: &[u16], output: &mut [u8], counts: &mut Counts) -> Answer {
     match judged::<BACKWARD>(characters, |n| output.len() >= n) {
         Ok([n, track, wrong]) => {
             correct::<BACKWARD>(characters, track, &mut output[..n]);
+            *counts = counted(track, wrong);
             Answer::Delivered([n, track, wrong, 0])
         }
         Err(refusal) => refusal,

@@ -1,8 +1,8 @@
 //! The sense log written for speed in Rust: every rule of document 02, request 2.1. Groups are judged by the tables of
 //! `fast6250`, but no data are made, only the last group's, for its padding. It shares no table and no code with the library.
 
-use crate::fast6250::{errors, illegal_map, relied, stray, BYTE_SPREADS, MOST_GROUPS, REDUCTIONS, SPREADS, VALUES};
-use crate::Answer;
+use crate::fast6250::{counted, errors, illegal_map, once, relied, stray, BYTE_SPREADS, MOST_GROUPS, REDUCTIONS, SPREADS, VALUES};
+use crate::{Answer, Counts};
 
 /// The errors of one group and the map of its changed tracks, or the refusal.
 #[inline(always)]
@@ -97,7 +97,7 @@ pub fn write<const BACKWARD: bool>(words: &[u16], maps: &[u16], log: &mut [u8]) 
     }
 }
 
-pub fn read_back(groups: usize, log: &[u8], maps: &mut [u16]) -> Answer {
+pub fn read_back(groups: usize, log: &[u8], maps: &mut [u16], counts: &mut Counts) -> Answer {
     if maps.len() < groups {
         return Answer::Refused(2, 0);
     }
@@ -115,6 +115,7 @@ pub fn read_back(groups: usize, log: &[u8], maps: &mut [u16]) -> Answer {
     if spare != 0 || pairs.clone().fold(false, |wrong, map| wrong | (map.wrapping_sub(1) > 510)) {
         return Answer::Refused(10, 0);
     }
+    *counts = counted(pairs.clone().map(once).sum());
     maps[..groups].fill(0);
     for (&byte, eight) in bits.iter().zip(maps[..groups].chunks_mut(8)) {
         let mut left = byte;

@@ -15,7 +15,7 @@ mod fast_log;
 mod fast_order;
 mod picture;
 
-use cases::{reading, Call, Damage, Implementation, Record, Seeded, LIBRARY, RUST};
+use cases::{reading, Call, Damage, Implementation, Output, Record, Seeded, LIBRARY, RUST};
 use std::hint::black_box;
 use std::time::Instant;
 
@@ -25,6 +25,9 @@ pub enum Answer {
     Delivered([usize; 4]),
     Refused(u16, usize),
 }
+
+/// The changes, or the marks, of tracks 0 to 8.
+pub type Counts = [usize; 9];
 
 /// So many records are read one after another, so that no branch is learned by heart.
 const RECORDS: usize = 48;
@@ -51,12 +54,12 @@ fn nanoseconds(repeats: usize, mut work: impl FnMut()) -> f64 {
 
 /// Both implementations must give the same before they are timed.
 fn compare(call: Call, record: &Record) {
-    let (mut words, mut bytes) = (vec![7; 5280], vec![7; 4104]);
-    let (mut words_again, mut bytes_again) = (words.clone(), bytes.clone());
-    let answer = call.run(&LIBRARY, record, &mut words, &mut bytes);
-    assert_eq!(answer, call.run(&RUST, record, &mut words_again, &mut bytes_again), "{}", call.name());
+    let (mut output, mut again) = (Output::full_of(7), Output::full_of(7));
+    let answer = call.run(&LIBRARY, record, &mut output);
+    assert_eq!(answer, call.run(&RUST, record, &mut again), "{}", call.name());
     assert!(matches!(answer, Answer::Delivered(_)));
-    assert!(words == words_again && bytes == bytes_again, "{}", call.name());
+    assert_eq!(output.counts, again.counts, "{}", call.name());
+    assert!(output == again, "{}", call.name());
 }
 
 /// The records of the first call, on which both implementations agree in every call.
@@ -76,10 +79,10 @@ fn repeats(length: usize) -> usize {
 
 /// The call by an implementation, over all records.
 #[inline(always)]
-fn timed(call: Call, by: &Implementation, records: &[Record], repeats: usize, words: &mut [u16], bytes: &mut [u8]) -> f64 {
+fn timed(call: Call, by: &Implementation, records: &[Record], repeats: usize, output: &mut Output) -> f64 {
     nanoseconds(repeats, || {
         for record in records {
-            black_box(call.run(by, black_box(record), words, bytes));
+            black_box(call.run(by, black_box(record), output));
         }
     })
 }
@@ -92,16 +95,16 @@ fn least<const N: usize>(one: [f64; N], other: [f64; N]) -> [f64; N] {
 /// One case by the library and by Rust, and memcpy of its data, in turn.
 fn case_in_turn(call: Call, length: usize) -> [f64; 3] {
     let records = compared(&[call], length);
-    let (mut words, mut bytes) = (vec![0; 5280], vec![0; 4104]);
+    let mut output = Output::full_of(0);
     let repeats = repeats(length);
     let mut best = [f64::MAX; 3];
     for _ in 0..ROUNDS {
-        let library = timed(call, &LIBRARY, &records, repeats, &mut words, &mut bytes);
-        let fast = timed(call, &RUST, &records, repeats, &mut words, &mut bytes);
+        let library = timed(call, &LIBRARY, &records, repeats, &mut output);
+        let fast = timed(call, &RUST, &records, repeats, &mut output);
         let memcpy = nanoseconds(repeats, || {
             for record in &records {
-                bytes[..record.data.len()].copy_from_slice(&black_box(record).data);
-                black_box(&mut bytes);
+                output.bytes[..record.data.len()].copy_from_slice(&black_box(record).data);
+                black_box(&mut output.bytes);
             }
         });
         best = least(best, [library, fast, memcpy]);
@@ -112,10 +115,10 @@ fn case_in_turn(call: Call, length: usize) -> [f64; 3] {
 /// Several calls by the library, in turn, on the records of the first.
 fn calls_in_turn<const N: usize>(calls: [Call; N], length: usize) -> [f64; N] {
     let records = compared(&calls, length);
-    let (mut words, mut bytes) = (vec![0; 5280], vec![0; 4104]);
+    let mut output = Output::full_of(0);
     let mut best = [f64::MAX; N];
     for _ in 0..ROUNDS {
-        best = least(best, calls.map(|call| timed(call, &LIBRARY, &records, repeats(length), &mut words, &mut bytes)));
+        best = least(best, calls.map(|call| timed(call, &LIBRARY, &records, repeats(length), &mut output)));
     }
     best
 }
@@ -166,6 +169,7 @@ fn cases() -> Vec<(Call, usize)> {
     let copied = |backward, damage| Call::Copy800 { backward, damage };
     let mut calls = vec![(Call::Write6250, 4101)];
     calls.extend(readings(at6250, &DAMAGES).into_iter().map(|call| (call, 4101)));
+    calls.push((at6250(false, Damage::OneGroup), 4101));
     calls.extend(readings(logged, &DAMAGES).into_iter().map(|call| (call, 4101)));
     calls.extend([false, true].map(|marked| (Call::ReadLog { marked }, 4101)));
     calls.push((Call::Write800, 2048));
