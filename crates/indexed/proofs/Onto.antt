@@ -1,16 +1,16 @@
 -- A one-to-one function of the numbers below n into them takes every value below n, and one that takes every value is one-to-one: the
 -- values are counted, and none can be missed without another that is taken twice.
 -- Assumes nothing.
-use mathlib.Core.Path.{_≡_, refl, sym, ap, ap₂, _∙_}
+use mathlib.Core.Path.{_≡_, refl, sym, ap, _∙_}
 use mathlib.Core.Bool.{Bool, true, false, cond}
-use Prim.Native.Nat.{ℕ, zero, suc, _+_, _<_, _≤_}
+use Prim.Native.Nat.{ℕ, zero, suc, _<_, _≤_}
 use native.Mathlib.Nat.{not-suc-le-zero}
-use native.Mathlib.Decide.{decLt, ℕ-discrete}
+use native.Mathlib.Decide.{decLt}
 use native.Mathlib.Omega.{arith}
 use borrow.Author.Tests.{eq-eqb, ne-eqb, eqb-true}
 use lib.Dec.{eqb}
 use Rattle.indexed.specs.List.{total, occurrences}
-use Rattle.indexed.proofs.Total.{total-same, total-one, total-none, total-ones, total-swap, total-within, total-digits, one-of-total}
+use Rattle.indexed.proofs.Total.{total-same, total-one, total-ones, total-swap, total-within, total-digits, one-of-total}
 
 -- ---- how often a value occurs
 

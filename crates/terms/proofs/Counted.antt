@@ -1,6 +1,6 @@
 -- The counts that a reader tells (document 02, request 2.7): nine, whose total is the sum, and at 800 only the corrected track's is above zero.
 -- Assumes nothing.
-use mathlib.Core.Path.{_≡_, sym, ap, subst, _∙_}
+use mathlib.Core.Path.{_≡_, sym, subst, _∙_}
 use mathlib.Core.List.{List, _∷_}
 use Prim.Native.Nat.{ℕ, _-_, _<_}
 use native.Mathlib.Nat.{le-of-eq}
@@ -9,11 +9,10 @@ use lib.ListN.{length, getD}
 use Rattle.indexed.specs.List.{total}
 use Rattle.answer.specs.Answer.{delivered}
 use Rattle.record6250.proofs.Counted as six
-use Rattle.record6250.specs.Read as sixRead
 use Rattle.record800.proofs.Answer as eightAnswer
 use Rattle.record800.proofs.Counted as eight
 use Rattle.record800.specs.Read as eightRead
-use Rattle.terms.specs.Reading.{Density, bpi6250, bpi800, Reading, at6250, at800, density, trackTold, changesTold, countsTold, readAnswer}
+use Rattle.terms.specs.Reading.{bpi6250, bpi800, Reading, at6250, at800, density, trackTold, changesTold, countsTold, readAnswer}
 use Rattle.terms.specs.Terms.{Counts}
 
 -- two densities are not the same
