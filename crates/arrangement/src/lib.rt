@@ -1,6 +1,9 @@
 // Nine words or the nine bits of a pointer map, moved by a way: for each of nine places, the place to take from. The moving
 // takes any permutation of nine places and refuses nothing: the crate head_order has the calls, with what they refuse. A way
 // is made of a card (document 02, request 2.4).
+
+#![tactic(auto)]
+
 pub mod card;
 pub mod track;
 

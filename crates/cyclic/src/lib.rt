@@ -1,4 +1,7 @@
 // The check characters of document 003: the code's constants, and its two registers.
+
+#![tactic(auto)]
+
 mod step;
 
 ghost use Rattle.std.specs.Prelude.{◌≡◌, ◌<◌};
@@ -8,7 +11,7 @@ ghost use Rattle.cyclic.specs.Step.{Advanced};
 pub use step::{enter, stepped};
 
 // The check register (CRCR) and the error-pattern register (EPR) of document 003, figure 1.
-#[derive(Drop)]
+#[derive(Clone, Copy)]
 pub struct Code800 {
     pub check: u16,
     pub error: u16,

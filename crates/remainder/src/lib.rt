@@ -2,6 +2,9 @@
 // of ORC"): what the bits leave that a power of T moves out of a byte. The powers of a group's eight tracks move
 // seven bits at most. A `match` on a number is a table in read-only memory, where a constant array would be
 // built at each use. No caller has more bits than its table: for other bytes the code's register is shifted.
+
+#![tactic(auto)]
+
 ghost use Rattle.std.specs.Prelude.{◌≡◌, ◌<◌};
 ghost use Rattle.indexed.specs.Rule.{value_at};
 ghost use Rattle.register.specs.Matrix.{product};

@@ -1,5 +1,8 @@
 // What is asked of slices that are lent, at both densities: which bits stand in any of the values, where one is above a
 // limit, and where an element of the forward picture stands among those that come last first.
+
+#![tactic(auto)]
+
 ghost use Rattle.std.specs.Prelude.{◌≡◌, ◌<◌};
 ghost use Rattle.slices.specs.Above.{first_above};
 ghost use Rattle.slices.specs.Turned.{turned_place};

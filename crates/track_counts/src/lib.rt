@@ -1,5 +1,8 @@
 // The changes of each of the nine tracks, beside their sum (document 02, request 2.7): what a reader tells at 6250, and what a log tells
 // that is read back.
+
+#![tactic(auto)]
+
 ghost use Rattle.std.specs.Prelude.{◌≡◌, ℕ, ◌+◌, ◌<◌};
 ghost use Rattle.indexed.specs.List.{total};
 ghost use Rattle.register.specs.Bit.{bit};

@@ -3,6 +3,8 @@
 // a pointer map by it gives and answers, and proofs/ has the laws. The crate arrangement computes with them, and head_order
 // has the calls.
 
+#![tactic(auto)]
+
 // The order toward which numbers are moved: that of the physical tracks, on the head, or that of the algebraic ones, in the
 // code. Definitions and code go by it alike, so it stands below both.
 #[derive(Drop)]

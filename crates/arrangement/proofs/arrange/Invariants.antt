@@ -1,0 +1,16 @@
+-- `arrangement::arrange` meets its contract. The loop's invariant: the first `k` words are arranged, and behind them the
+-- target is as it was.
+-- Assumes nothing.
+use mathlib.Core.Path.{◌≡◌}
+use Prim.Native.Nat.{◌≤◌, ◌-◌}
+use lib.ListN.{length}
+use Rattle.indexed.proofs.Front.{front}
+use Rattle.track_order.specs.Order.{arranged}
+use Rattle.arrangement.proofs.arrange.Given as goal
+
+abbrev pub invariant-loop-k : goal.invariant-loop-k
+invariant-loop-k l =
+    (l.k ≤ 9) × (length l.target ≡ length l.initial.target) × (l.target ≡ front l.k (arranged l.way l.source) l.initial.target)
+
+abbrev pub decreases-loop-k : goal.decreases-loop-k
+decreases-loop-k l = 9 - l.k
