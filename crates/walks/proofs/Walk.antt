@@ -16,13 +16,13 @@ use mathlib.Core.Path.{◌≡◌, refl, sym, ap, subst}
 use Prim.Native.Nat.{ℕ, zero, suc}
 use mathlib.Core.List.{List, [], ◌∷◌}
 use seplogic.Ra.Ura.{Ura}
-use seplogic.Ra.TreeShare.{full_share}
 use lib.Dec.{T as Holds}
-use mir.Syntax.{Name, Ty, Lifetime, Fn, Place, Opd as Operand, Body as Code, seq, call}
+use mir.Syntax.{Callee as Name, Ty, Lifetime, Fn, Place, Opd as Operand, Body as Code, seq, call}
 use mir.Raw.{raw as raw_ty}
 use mir.Val.{Val, WT, has_ty, vptr}
 use base.Logic.{SProp, ent, sep, emp, never, id⊢, via, comm∗, assoc∗, assoc', mono∗, mono_l, mono_r, fst∗, snd∗, emp∗, never_e}
 use base.Stored.{Gv}
+use base.Fraction.{full_share}
 use base.Fml.{Lft, Share, GName, Fml, ftrue, ffalse, fsep, fat, froom, fdies, flft, fobs, fauth, fres, flent, fobor}
 use prog.Wp.{Env, Calls, Loops, Closed, WpFn, release}
 use prog.Model.{Model}
