@@ -2,12 +2,8 @@
 -- Assumes nothing.
 use borrow.Author.Rules.{rules}
 use Rattle.products.proofs.Check.{halved, summed, summed_is}
-use Rattle.products.proofs.sums.sum.Statement.{statement}
-use Rattle.products.proofs.sums.sum.Tie as tie
+use Rattle.products.proofs.sums.sum.Goals as goal
 
-returns : tie.Need-returns
+pub returns : goal.returns
 unfolding summed halved
 returns c = summed_is c.args.tracks (search rules)
-
-pub sum-spec : {M : Type 1} → statement M
-sum-spec = tie.close (tie.spec returns)

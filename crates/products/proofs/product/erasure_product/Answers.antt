@@ -6,22 +6,12 @@ use borrow.Author.Rules.{rules}
 use Rattle.rectangular.specs.Constants.{feedback, exponent}
 use Rattle.rectangular.specs.Syndrome.{erasure}
 use Rattle.products.proofs.Matrix.{product_linear, erasure_linear}
-use Rattle.products.proofs.product.erasure_product.Statement.{statement}
-use Rattle.products.proofs.product.erasure_product.Tie as tie
+use Rattle.products.proofs.product.erasure_product.Goals as goal
 
-erasure-columns-requires : tie.Need-erasure-columns-requires
-erasure-columns-requires c κs = search rules
-
-applied-requires : tie.Need-applied-requires
-applied-requires c κs = search rules
-
-returns : tie.Need-returns
+pub returns : goal.returns
 returns c =
-    let args = c.before.before.args in
-    let columns = c.before.erasure-columns in
+    let args = c.args in
+    let columns = c.erasure_columns in
     c.applied.ensures
     ∙ product_linear (erasure 8 feedback exponent args.d) (erasure_linear 8 feedback exponent args.d (omega arith))
     columns.result columns.ensures args.x (search rules)
-
-pub erasure-product-spec : {M : Type 1} → statement M
-erasure-product-spec = tie.close (tie.spec erasure-columns-requires applied-requires returns)
