@@ -1,6 +1,9 @@
 // Judging a whole record at 6250 bits per inch without writing (document 01, "The 6250 record" and "Where a call is
 // turned down"). Its corrected bytes and the tracks that are changed in each group are gathered into slices that the caller lends,
 // and what it comes to is told: every call that reads a record does it by this.
+
+#![tactic(auto)]
+
 mod corrected;
 mod gather;
 mod judge;
