@@ -16,7 +16,7 @@ use track_counts::Counts;
 pub const SHORT: usize = 64;
 
 // The figures of a delivery: the data's length, how many words of the reading differ from the record, and how many in each track.
-#[derive(Drop)]
+#[derive(Clone, Copy)]
 pub struct Figures {
     pub length: usize,
     pub changes: usize,
@@ -24,7 +24,7 @@ pub struct Figures {
 }
 
 // What reading a record answers.
-#[derive(Drop)]
+#[derive(Clone, Copy)]
 pub enum Read {
     Delivered(Figures),
     Refused(Refusal),
