@@ -29,7 +29,7 @@ store_map-end-requires c =
       arith,
       at.invariant.1,
       at.invariant.2,
-      made.log.given,
+      made.store_bit_map-end.auto.log,
       made.store_bit_map-end.ensures.length,
       length_stored changed at.g,
       bits_below changed at.g,
@@ -44,13 +44,10 @@ loop-g-preserved c =
     let made = c in
     let changed = made.args.changed.now in (
       search rules,
-      c.log2.given ∙ at.invariant.1,
+      done.auto.log ∙ at.invariant.1,
       omega (arith, done.ensures.end, at.invariant.2, length_more changed at.g),
       done.ensures.log ∙ maps_more changed _ _ at.log at.end at.g at.invariant.2 at.invariant.3,
     )
-
-pub shape_of-log : goal.shape_of-log
-shape_of-log c = c.loop-g.invariant.1 ∙ c.log.given
 
 pub returns : goal.returns
 returns c =

@@ -60,7 +60,7 @@ unfolding answer_to result_of log_answer
 returns-then-log-bit_map_length c =
     let sized = c in
     let args = sized.args in
-    let suits = sym sized.lengths_suit.ensures ∙ not-false _ sized.if-not-lengths_suit.false in
+    let suits = sym sized.lengths_suit.ensures ∙ sized.if-not-lengths_suit.false in
     let made = refused_with_terms _ _ (log args.backward args.words.now args.maps.now) _ _ c.refused-then-log-bit_map_length.ensures
     (ap (logged (length (reading_log args.backward args.words.now args.maps.now)))
     (space_refused args.backward args.words.now args.maps.now _ suits (lt-leb (log_space (length args.maps.now)) (length args.log.now) (omega (arith, c.if-log-bit_map_length.true, sized.bit_map_length.ensures))))) in record {
@@ -72,7 +72,7 @@ returns-then-log-bit_map_length c =
 pub log_sized-requires : goal.log_sized-requires
 log_sized-requires c =
     let sized = c in
-    let suits = sym sized.lengths_suit.ensures ∙ not-false _ sized.if-not-lengths_suit.false in
+    let suits = sym sized.lengths_suit.ensures ∙ sized.if-not-lengths_suit.false in
     (suits, omega (arith, c.if-log-bit_map_length.false, sized.bit_map_length.ensures), sized.requires)
 
 pub returns : goal.returns
