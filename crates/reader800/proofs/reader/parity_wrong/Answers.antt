@@ -2,23 +2,15 @@
 -- Assumes nothing.
 use mathlib.Core.Path.{◌≡◌, sym, ap}
 use Prim.Native.Nat.{ℕ, ◌%◌, ◌<◌}
-use borrow.Author.Rules.{rules}
 use lib.Count.{ones, ones_in}
 use Rattle.indexed.proofs.Test.{equal}
 use Rattle.register.specs.Parity.{parity, parity_digits}
 use Rattle.register.specs.Xor.{◌⊕◌}
-use Rattle.reader800.proofs.reader.parity_wrong.Statement.{statement}
-use Rattle.reader800.proofs.reader.parity_wrong.Tie as tie
+use Rattle.reader800.proofs.reader.parity_wrong.Goals as goal
 
 parity-of-ones : (character : ℕ) → character < 512 → parity character ≡ ones character % 2
 unfolding parity parity_digits ones ones_in
 parity-of-ones = equal 512 parity (λ c. ones c % 2) tt
 
-cast-result : tie.Need-overflow-cast-result
-cast-result c = search rules
-
-returns : tie.Need-returns
+pub returns : goal.returns
 returns c = ap (λ (p : ℕ). p ⊕ 1) (sym (parity-of-ones c.args.character c.requires))
-
-pub parity-wrong-spec : {M : Type 1} → statement M
-parity-wrong-spec = tie.close (tie.spec cast-result returns)

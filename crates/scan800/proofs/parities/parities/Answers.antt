@@ -3,12 +3,8 @@
 use mathlib.Core.Path.{refl}
 use Rattle.indexed.specs.List.{tabulate, tabulate_from}
 use Rattle.register.specs.Parity.{parity, parity_digits}
-use Rattle.scan800.proofs.parities.parities.Statement.{statement}
-use Rattle.scan800.proofs.parities.parities.Tie as tie
+use Rattle.scan800.proofs.parities.parities.Goals as goal
 
-returns : tie.Need-returns
+pub returns : goal.returns
 unfolding tabulate tabulate_from parity parity_digits
 returns c = refl
-
-pub parities-spec : {M : Type 1} → statement M
-parities-spec = tie.close (tie.spec returns)

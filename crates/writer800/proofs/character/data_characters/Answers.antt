@@ -4,12 +4,8 @@ use mathlib.Core.Path.{refl}
 use Rattle.indexed.specs.List.{tabulate, tabulate_from}
 use Rattle.register.specs.Parity.{parity, parity_digits}
 use Rattle.record800.specs.Record.{character_of}
-use Rattle.writer800.proofs.character.data_characters.Statement.{statement}
-use Rattle.writer800.proofs.character.data_characters.Tie as tie
+use Rattle.writer800.proofs.character.data_characters.Goals as goal
 
-returns : tie.Need-returns
+pub returns : goal.returns
 unfolding tabulate tabulate_from character_of parity parity_digits
 returns c = refl
-
-pub data-characters-spec : {M : Type 1} → statement M
-data-characters-spec = tie.close (tie.spec returns)
