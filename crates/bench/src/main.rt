@@ -1,5 +1,6 @@
 // The bench program, for whoever looks at one bad record: writes a record of either density as text, or
 // reads one from text and shows what was delivered or refused, and where on the tracks.
+#![tactic(auto)]
 mod arguments;
 mod at6250;
 mod at800;

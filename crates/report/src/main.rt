@@ -1,6 +1,7 @@
 // The report program (document 02, request 2.1): reads sense logs from standard input, each after its group count and its
 // length, and prints a line with the number of marks of each and one with their total; or the refusal of the first that is bad
 // or cut.
+#![tactic(auto)]
 mod input;
 mod line;
 mod part;

@@ -1,4 +1,5 @@
 // What came of one call of C's `read` or `write`.
+#![tactic(auto)]
 ghost use Rattle.std.specs.Prelude.{◌≡◌};
 ghost use Rattle.transfer.specs.Moved.{error_number, failed_by, moved_by, Came, is_interrupted, ended_by};
 
