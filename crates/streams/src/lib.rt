@@ -2,6 +2,7 @@
 // input, and what cannot be written is told on standard error. A program makes its text on a page and hands it over in one
 // piece, when it is whole, or page by page where its output has no bound.
 #![tactic(auto)]
+
 mod message;
 mod sink;
 mod source;
