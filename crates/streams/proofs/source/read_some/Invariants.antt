@@ -1,0 +1,11 @@
+-- `streams::source::read_some` meets its contract: as many turns as tries.
+-- Assumes nothing.
+use mathlib.Core.Path.{◌≡◌}
+use lib.ListN.{length}
+use Rattle.streams.proofs.source.read_some.Given as goal
+
+abbrev pub invariant-loop-tries : goal.invariant-loop-tries
+invariant-loop-tries g l = length l.space ≡ length l.initial.space
+
+abbrev pub decreases-loop-tries : goal.decreases-loop-tries
+decreases-loop-tries g l = l.tries
