@@ -1,6 +1,7 @@
 // Standard output and standard error: what a program has on its page is handed over.
 ghost use Rattle.std.specs.Prelude.{◌≡◌, ◌+◌, ◌^◌, ◌<◌, length};
 ghost use Rattle.transfer.specs.Moved.{Within};
+ghost use Rattle.streams.specs.Bytes.{WrittenOnce, WasWritten, on_page};
 ghost use Rattle.streams.specs.Ended.{Taken, is_whole, Left, ended_behind, Bounded, Passed, Finished};
 ghost use Rattle.streams.specs.Message.{unwritten_text};
 
@@ -20,7 +21,8 @@ const ERRORS: &str = "/proc/self/fd/2";
 
 // One write, made again where a signal came first.
 fn write_some<W: Write>(to: &mut W, bytes: &[u8]) -> Moved
-    ensures { Within result (length bytes.now) }
+    ensures within { Within result (length bytes.now) }
+    ensures bytes { WrittenOnce result bytes.now (W.contents to.old) (W.contents to.new) }
 {
     let mut tries = TRIES;
     while tries > 0 {
@@ -56,7 +58,8 @@ fn is_cut(file: bool, count: usize, all: usize) -> bool {
 
 // Hands bytes over until all are taken, a file takes no more or a write fails.
 fn send<W: Write>(to: &mut W, file: bool, bytes: &[u8]) -> Ended
-    ensures { Taken result (length bytes.now) }
+    ensures taken { Taken result (length bytes.now) }
+    ensures bytes { WasWritten result bytes.now (W.contents to.old) (W.contents to.new) }
 {
     let mut count = 0;
     while count < bytes.len() {
@@ -74,7 +77,8 @@ fn send<W: Write>(to: &mut W, file: bool, bytes: &[u8]) -> Ended
 
 // Hands over what a page holds; of a text that did not fit on it, nothing.
 fn send_page<W: Write>(to: &mut W, file: bool, page: &[u8; PAGE], held: usize) -> Ended
-    ensures { Taken result held }
+    ensures taken { Taken result held }
+    ensures bytes { WasWritten result (on_page page.now held) (W.contents to.old) (W.contents to.new) }
 {
     if held > PAGE {
         return Ended::After(0);
