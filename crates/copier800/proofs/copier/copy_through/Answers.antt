@@ -2,6 +2,7 @@
 -- theirs.
 -- Assumes nothing.
 use mathlib.Core.Path.{refl, sym, ap, ◌∙◌}
+use native.Mathlib.Omega.{arith}
 use lib.ListN.{take}
 use lib.Seq.{length-take-le}
 use Rattle.answer.specs.Answer.{output_after}
@@ -15,7 +16,7 @@ use Rattle.copier800.proofs.copier.copy_through.Goals as goal
 pub store-requires : goal.store-requires
 store-requires c =
     let is = told _ _ _ _ _ _ (sym (ap told_read c.in-Delivered.is) ∙ c.judge_record.ensures) in
-    (is.passes, is.is_track, c.requires is.passes.lengths)
+    (is.passes, omega (arith, is.is_track), c.requires is.passes.lengths)
 
 pub slice_bounds-write-end : goal.slice_bounds-write-end
 slice_bounds-write-end c =

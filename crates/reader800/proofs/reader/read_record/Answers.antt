@@ -5,7 +5,6 @@ use mathlib.Core.Path.{refl, sym, ap, ap₂, ◌∙◌}
 use mathlib.Core.List.{List, ◌++◌}
 use Prim.Native.Nat.{ℕ}
 use native.Mathlib.Omega.{arith}
-use borrow.Author.Tests.{leb-true}
 use lib.Dec.{leb}
 use lib.ListN.{length, drop}
 use Rattle.answer.specs.Answer.{output_after}
@@ -19,9 +18,7 @@ use Rattle.reader800.proofs.reader.read_record.Goals as goal
 pub store-requires : goal.store-requires
 store-requires c =
     let is = told _ _ _ _ _ _ (sym (ap told_read c.in-Delivered.is) ∙ c.judge_record.ensures) in
-    let output = c.args.output.now in
-    let room = leb-true c.data_length.result (length output) is.some in
-    (is.passes, is.is_track, omega (arith, room, c.data_length.ensures))
+    (is.passes, omega (arith, is.is_track), grind (arith, is.some, c.data_length.ensures))
 
 pub returns-in-Delivered : goal.returns-in-Delivered
 unfolding output_after read_data
