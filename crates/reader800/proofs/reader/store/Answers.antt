@@ -25,26 +25,24 @@ loop-k-init c = (search rules, refl, refl)
 
 pub parity_wrong-off-requires : goal.parity_wrong-off-requires
 parity_wrong-off-requires c =
-    let start = c in
-    rw c.forward_character-next.ensures (picture_below start.args.backward start.args.characters.now start.requires.0 c.loop-k.k)
+    rw c.forward_character-next.ensures (picture_below c.args.backward c.args.characters.now c.requires.0 c.loop-k.k)
 
 pub loop-k-preserved : goal.loop-k-preserved
 unfolding stored_data candidate wrong
 loop-k-preserved c =
-    let start = c in
     let at = c.loop-k in
-    let track = start.args.track in
-    let n = length start.args.characters.now - 2 in
-    let l = picture start.args.backward start.args.characters.now in
+    let track = c.args.track in
+    let n = length c.args.characters.now - 2 in
+    let l = picture c.args.backward c.args.characters.now in
     let next = c.forward_character-next.ensures in
     let taken = c.loop-k-test.true in
     let off = c.parity_wrong-off.ensures ∙ ap₂ ◌⊕◌ (ap parity next) (sym (expected_odd n l at.k taken)) in
-    let shifted = shl_exact 1 track 16 (rw off (wrong_lt n l at.k)) (omega (arith, start.requires.1)) ∙ ap (λ (w : ℕ). w * 2 ^ track) off in (
+    let shifted = shl_exact 1 track 16 (rw off (wrong_lt n l at.k)) (omega (arith, c.requires.1)) ∙ ap (λ (w : ℕ). w * 2 ^ track) off in (
       search rules,
       length-set at.output at.k _ ∙ at.invariant.1,
       ap₂ (λ (m : List ℕ) (x : ℕ). set m at.k x) at.invariant.2
           (ap₂ (λ (x y : ℕ). (x ⊕ y) % 256) next shifted ∙ sym (get_d_tabulate n _ at.k 0 taken))
-          ∙ front_more at.k _ start.args.output.now 0 (rw (length_tabulate n) taken) (omega (arith, start.requires.2)),
+          ∙ front_more at.k _ c.args.output.now 0 (rw (length_tabulate n) taken) (omega (arith, c.requires.2)),
     )
 
 pub shape_of-output : goal.shape_of-output

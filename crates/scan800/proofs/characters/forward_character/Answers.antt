@@ -11,7 +11,6 @@ bounds-characters-turned_place c = c.turned_place.ensures.within
 
 pub returns : goal.returns
 returns c =
-    let start = c in
-    let l = start.args.characters.now in
+    let l = c.args.characters.now in
     ap (λ (k : ℕ). get_or l k 0) c.turned_place.ensures.place
-    ∙ sym (get_or_picture start.args.backward l start.args.k start.requires)
+    ∙ sym (get_or_picture c.args.backward l c.args.k c.requires)

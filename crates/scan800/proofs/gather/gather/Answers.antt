@@ -25,22 +25,19 @@ loop-k-init c = (search rules, (c.fresh-registers.ensures.0, c.fresh-registers.e
 
 pub bounds-parities-next : goal.bounds-parities-next
 bounds-parities-next c =
-    let start = c in
-    in_table start.requires.0 start.requires.1 _ c.forward_character-next.ensures
+    in_table c.requires.0 c.requires.1 _ c.forward_character-next.ensures
 
 pub stepped-registers-requires : goal.stepped-registers-requires
 stepped-registers-requires c =
-    let start = c in
-    let is-flag = data_wrong start.requires.0 start.requires.1 _ c.forward_character-next.ensures c.loop-k-test.true in
-    step_asks start.requires.0 _ _ c.loop-k.invariant.1 is-flag
+    let is-flag = data_wrong c.requires.0 c.requires.1 _ c.forward_character-next.ensures c.loop-k-test.true in
+    step_asks c.requires.0 _ _ c.loop-k.invariant.1 is-flag
 
 pub loop-k-preserved : goal.loop-k-preserved
 loop-k-preserved c =
-    let start = c in
-    let passes = start.requires.0 in
+    let passes = c.requires.0 in
     let at = c.loop-k in
     let next = c.forward_character-next.ensures in
-    let stepped = step passes at.k at.invariant.1 next (data_wrong passes start.requires.1 at.k next c.loop-k-test.true) in
+    let stepped = step passes at.k at.invariant.1 next (data_wrong passes c.requires.1 at.k next c.loop-k-test.true) in
     (search rules, (c.stepped-registers.ensures.0 ∙ stepped.0, c.stepped-registers.ensures.1 ∙ stepped.1, stepped.2, stepped.3))
 
 pub overflow_add-wrong : goal.overflow_add-wrong
@@ -54,33 +51,29 @@ forward_character-check-requires c = omega (arith, lengths_within _ _ c.requires
 
 pub bounds-parities-check : goal.bounds-parities-check
 bounds-parities-check c =
-    let start = c in
-    in_table start.requires.0 start.requires.1 _ c.forward_character-check.ensures
+    in_table c.requires.0 c.requires.1 _ c.forward_character-check.ensures
 
 pub forward_character-last-requires : goal.forward_character-last-requires
 forward_character-last-requires c = omega (arith, lengths_within _ _ c.requires.0)
 
 pub bounds-parities-last : goal.bounds-parities-last
 bounds-parities-last c =
-    let start = c in
-    in_table start.requires.0 start.requires.1 _ c.forward_character-last.ensures
+    in_table c.requires.0 c.requires.1 _ c.forward_character-last.ensures
 
 pub stepped-entered-requires : goal.stepped-entered-requires
 stepped-entered-requires c =
-    let start = c in
-    let is-flag = check_wrong start.requires.0 start.requires.1 c.forward_character-check.ensures in
-    step_asks start.requires.0 _ _ c.loop-k.invariant.1 is-flag
+    let is-flag = check_wrong c.requires.0 c.requires.1 c.forward_character-check.ensures in
+    step_asks c.requires.0 _ _ c.loop-k.invariant.1 is-flag
 
 pub returns : goal.returns
 returns c =
-    let start = c in
-    let passes = start.requires.0 in
+    let passes = c.requires.0 in
     let at = c.loop-k in
-    let all : at.k ≡ length start.args.characters.now - 2 = omega arith in
+    let all : at.k ≡ length c.args.characters.now - 2 = omega arith in
     let check = c.forward_character-check.ensures in
     let last = c.forward_character-last.ensures in
-    let entered = step passes _ (rw all at at.invariant.1) check (check_wrong passes start.requires.1 check) in
-    let told = finish passes entered last (last_wrong passes start.requires.1 last) in
+    let entered = step passes _ (rw all at at.invariant.1) check (check_wrong passes c.requires.1 check) in
+    let told = finish passes entered last (last_wrong passes c.requires.1 last) in
     (c.stepped-entered.ensures.0 ∙ told.0, c.stepped-entered.ensures.1 ∙ told.1, told.2, told.3)
 
 pub overflow_add-result-2 : goal.overflow_add-result-2

@@ -14,26 +14,21 @@ returns-then-not-length_suits c =
 
 pub returns-then-not-enough : goal.returns-then-not-enough
 returns-then-not-enough c =
-    let length-test = c in
-    let suits = sym length-test.length_suits.ensures ∙ length-test.if-not-length_suits.false in
+    let suits = sym c.length_suits.ensures ∙ c.if-not-length_suits.false in
     c.refused-then-not-enough.ensures ∙ sym (space_refused _ _ _ suits (c.if-not-enough.true))
 
 pub returns-then-stray-count : goal.returns-then-stray-count
 returns-then-stray-count c =
-    let stray = c in
-    let length-test = stray in
-    let suits = sym length-test.length_suits.ensures ∙ length-test.if-not-length_suits.false in
-    let found = rw stray.first_stray-stray.ensures at c.if-stray-count.true in
+    let suits = sym c.length_suits.ensures ∙ c.if-not-length_suits.false in
+    let found = rw c.first_stray-stray.ensures at c.if-stray-count.true in
     c.refused-then-stray-count.ensures
-    ∙ ap (refused_for StrayBits) stray.first_stray-stray.ensures
-    ∙ sym (stray_refused _ _ _ suits (stray.if-not-enough.false) found)
+    ∙ ap (refused_for StrayBits) c.first_stray-stray.ensures
+    ∙ sym (stray_refused _ _ _ suits (c.if-not-enough.false) found)
 
 pub judge_sums-requires : goal.judge_sums-requires
 judge_sums-requires c =
-    let stray = c in
-    let length-test = stray in
-    let suits = sym length-test.length_suits.ensures ∙ length-test.if-not-length_suits.false in
-    (passed _ _ suits (rw stray.first_stray-stray.ensures at c.if-stray-count.false), search rules)
+    let suits = sym c.length_suits.ensures ∙ c.if-not-length_suits.false in
+    (passed _ _ suits (rw c.first_stray-stray.ensures at c.if-stray-count.false), search rules)
 
 pub returns : goal.returns
 returns c =

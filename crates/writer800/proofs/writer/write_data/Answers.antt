@@ -47,16 +47,15 @@ shift-requires c =
 pub loop-k-preserved : goal.loop-k-preserved
 unfolding times_x shifts
 loop-k-preserved c =
-    let start = c in
     let at = c.loop-k in
-    let bytes = start.args.bytes.now in
+    let bytes = c.args.bytes.now in
     let are : (i : ℕ) → get_or bytes i 0 < 256 = λ i. omega (arith, c.type_inv.bytes i) in
-    let next = ruled _ 256 character_of start.requires.1 (get_or bytes at.k 0) 0 (are at.k) in (
+    let next = ruled _ 256 character_of c.requires.1 (get_or bytes at.k 0) 0 (are at.k) in (
       search rules,
       length-set at.characters at.k _ ∙ at.invariant.1,
       ap₂ (λ (l : List ℕ) (x : ℕ). set l at.k x) at.invariant.2
           (next ∙ sym (get_d_map character_of bytes at.k 0 0 c.loop-k-test.true))
-          ∙ front_more at.k (map character_of bytes) start.args.characters.now 0 (omega (arith, length-map bytes character_of)) (omega arith),
+          ∙ front_more at.k (map character_of bytes) c.args.characters.now 0 (omega (arith, length-map bytes character_of)) (omega arith),
       ap₂ ◌⊕◌ (c.shift.ensures ∙ ap times_x at.invariant.3) next
           ∙ sym (held_next 9 feedback 0 at.k (λ i. character_of (get_or bytes i 0)) (lit< tt) (λ i h. character_lt _ (are i)))
           ∙ ap (λ (n : ℕ). check_sum n (λ i. character_of (get_or bytes i 0))) (sym (add-one at.k)),
