@@ -5,7 +5,6 @@ use Rattle.answer.specs.Answer.{Answer, delivered, told_refusal}
 use Rattle.head_order.specs.declared.MovedMap.{MovedMap}
 use Rattle.head_order.specs.declared.MovedMap.TheVariants as Map
 use Rattle.head_order.specs.declared.Stored.{Stored}
-use Rattle.head_order.specs.declared.Stored.TheVariants as Stored
 
 -- with the figures that are stored: of words none, of a card the nine numbers
 abbrev pub told_stored : Stored → List ℕ → Answer

@@ -1,13 +1,12 @@
 -- `marks::marks::run_right` meets its contract. The loop's invariant: the characters passed are as they were delivered.
 -- Assumes nothing.
-use Prim.Native.Nat.{ℕ, ◌-◌, ◌<◌}
+use Prim.Native.Nat.{ℕ, ◌<◌}
 use mathlib.Core.Path.{◌≡◌, sym, ◌∙◌}
-use mathlib.Core.Bool.{true}
 use native.Mathlib.Omega.{arith}
 use borrow.Author.Count.{below_none, below_more}
 use borrow.Author.Rules.{rules}
 use Rattle.indexed.proofs.Test.{all_true, all_false}
-use Rattle.marks.specs.Marks.{character_right, run_right}
+use Rattle.marks.specs.Marks.{run_right}
 use Rattle.marks.proofs.marks.run_right.Goals as goal
 
 pub loop-k-init : goal.loop-k-init
