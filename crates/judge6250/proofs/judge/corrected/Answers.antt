@@ -1,7 +1,6 @@
 -- `judge6250::judge::corrected` meets its contract: the errors are taken off where they stand, and each is marked.
 -- Assumes nothing.
 use mathlib.Core.Path.{◌≡◌, refl, ap, ap₂, ◌∙◌}
-use mathlib.Core.Logic.{⊎_elim}
 use Prim.Native.Nat.{ℕ, ◌+◌, ◌<◌}
 use borrow.Author.Rules.{rules}
 use lib.ListN.{get_or}
@@ -10,6 +9,7 @@ use Rattle.register.specs.Xor.{◌⊕◌}
 use Rattle.rectangular.specs.Correction.{error_at}
 use Rattle.group6250.specs.Packed.{values_of}
 use Rattle.judge6250.proofs.Corrected.{mark_lt, parity_here, parity_elsewhere, corrected_values, changed_marks}
+use Rattle.judge6250.proofs.judge.corrected.Goals.{then-pair-eq-PARITY_TRACK, else-pair-eq-PARITY_TRACK, then-pair-eq-PARITY_TRACK-2, else-pair-eq-PARITY_TRACK-2}
 use Rattle.judge6250.proofs.judge.corrected.Goals as goal
 
 pub overflow_add-result : goal.overflow_add-result
@@ -26,11 +26,15 @@ returns c =
     let args = start.args in
     let g = args.group in
     let parity1 : joined.if-pair-eq-PARITY_TRACK.parity ≡ g.parity ⊕ error_at args.pair.first args.pair.error 8 =
-    ⊎_elim (λ w. parity_here g.parity joined.if-pair-eq-PARITY_TRACK.parity args.pair.first args.pair.error w.0.true w.2)
-    (λ w. parity_elsewhere g.parity joined.if-pair-eq-PARITY_TRACK.parity args.pair.first args.pair.error w.0.false w.1) joined.if-pair-eq-PARITY_TRACK.branch in
+    elim joined.if-pair-eq-PARITY_TRACK.branch [
+      | then-pair-eq-PARITY_TRACK w ↦ parity_here g.parity joined.if-pair-eq-PARITY_TRACK.parity args.pair.first args.pair.error w.if-pair-eq-PARITY_TRACK.true w.parity-is
+      | else-pair-eq-PARITY_TRACK w ↦ parity_elsewhere g.parity joined.if-pair-eq-PARITY_TRACK.parity args.pair.first args.pair.error w.if-pair-eq-PARITY_TRACK.false w.parity-is
+    ] in
     let parity2 : joined.if-pair-eq-PARITY_TRACK-2.parity ≡ joined.if-pair-eq-PARITY_TRACK.parity ⊕ error_at args.pair.second args.pair.other 8 =
-    ⊎_elim (λ w. parity_here joined.if-pair-eq-PARITY_TRACK.parity joined.if-pair-eq-PARITY_TRACK-2.parity args.pair.second args.pair.other w.0.true w.3)
-    (λ w. parity_elsewhere joined.if-pair-eq-PARITY_TRACK.parity joined.if-pair-eq-PARITY_TRACK-2.parity args.pair.second args.pair.other w.0.false w.1) joined.if-pair-eq-PARITY_TRACK-2.branch in
+    elim joined.if-pair-eq-PARITY_TRACK-2.branch [
+      | then-pair-eq-PARITY_TRACK-2 w ↦ parity_here joined.if-pair-eq-PARITY_TRACK.parity joined.if-pair-eq-PARITY_TRACK-2.parity args.pair.second args.pair.other w.if-pair-eq-PARITY_TRACK-2.true w.parity-is
+      | else-pair-eq-PARITY_TRACK-2 w ↦ parity_elsewhere joined.if-pair-eq-PARITY_TRACK.parity joined.if-pair-eq-PARITY_TRACK-2.parity args.pair.second args.pair.other w.if-pair-eq-PARITY_TRACK-2.false w.parity-is
+    ] in
     let values : values_of (record {
       tracks = g.tracks ⊕ c.placed.result ⊕ c.placed-2.result;
       parity = joined.if-pair-eq-PARITY_TRACK-2.parity;

@@ -31,15 +31,11 @@ all_hold false b c e = absurd (false≢true e)
 pub corrected-requires : goal.corrected-requires
 corrected-requires c =
     let told = c.errors_of in
-    let pair = c.pair-1.given in
     let start = c in
-    let within = errors_apart 8 feedback exponent _ _ (relied_on start.args.legal start.args.pointers) _ _ _ _ (sym told.ensures ∙ ap told_errors pair.1) in
+    let within = errors_apart 8 feedback exponent _ _ (relied_on start.args.legal start.args.pointers) _ _ _ _ (sym told.ensures ∙ ap told_errors c.in-In.is) in
     (omega (arith, within.first), omega (arith, within.second), within.apart)
 
 -- errors that are told by the sums, taken off, are the judgement
-pub enum_told-in-Unaccounted : goal.enum_told-in-Unaccounted
-enum_told-in-Unaccounted c = search rules
-
 module _ (g : Group) (s1 s2 pointers : ℕ) (is1 : s1 ≡ parity_syndrome 8 (λ k. get_or (values_of g) k 0)) (is2 : s2 ≡ check_syndrome 8 feedback (λ k. get_or (values_of g) k 0)) where
   judgement-of : (e : Errors) → e ≡ errors_of 8 feedback exponent s1 s2 (pointed_tracks 9 pointers)
       → without 8 (λ k. get_or (values_of g) k 0) e ≡ judged 8 feedback exponent (λ k. get_or (values_of g) k 0) (pointed_tracks 9 pointers)
@@ -57,7 +53,7 @@ returns-then-is_clean c =
     let clean = all_hold _ _ _ (sym c.is_clean.ensures ∙ c.if-is_clean.true) in
     let none = eqb-true start.args.pointers 0 clean.2 in
     let s1 = sym (parity_syndrome_lem g _ c.parity.ensures) ∙ eqb-true _ 0 clean.0 in
-    let s2 = sym (check_syndrome_lem g _ c.check_syndrome_lem.ensures) ∙ eqb-true _ 0 clean.1 in record {
+    let s2 = sym (check_syndrome_lem g _ c.check_syndrome-s2.ensures) ∙ eqb-true _ 0 clean.1 in record {
       told = sym (ap (λ (p : ℕ). judged 8 feedback exponent (λ k. get_or (values_of g) k 0) (pointed_tracks 9 p)) (ap (relied_on legal) none ∙ relied_none legal)
           ∙ clean_judged (λ k. get_or (values_of g) k 0) s1 s2
           ∙ ap corrected (tabulate_get_or 9 (values_of g) (length_values g)));
@@ -69,11 +65,10 @@ unfolding without changed_by
 returns-in-In c =
     let at = c in
     let start = at in
-    let g = start.args.group in
-    let pair = c.pair-1.given in record {
+    let g = start.args.group in record {
       told = ap corrected c.corrected.ensures.values
           ∙ judgement-of g _ _ (relied_on start.args.legal start.args.pointers) (parity_syndrome_lem g _ at.parity.ensures)
-          (check_syndrome_lem g _ at.check_syndrome_lem.ensures) _ (sym (ap told_errors pair.1) ∙ at.errors_of.ensures);
+          (check_syndrome_lem g _ at.check_syndrome-s2.ensures) _ (sym (ap told_errors c.in-In.is) ∙ at.errors_of.ensures);
       changed = c.corrected.ensures.changed;
     }
 
@@ -84,7 +79,7 @@ returns-in-TooMany c =
     let start = at in
     let g = start.args.group in record {
       told = judgement-of g _ _ (relied_on start.args.legal start.args.pointers) (parity_syndrome_lem g _ at.parity.ensures)
-          (check_syndrome_lem g _ at.check_syndrome_lem.ensures) _ (sym (ap told_errors c.enum_told-1.given.1) ∙ at.errors_of.ensures);
+          (check_syndrome_lem g _ at.check_syndrome-s2.ensures) _ (sym (ap told_errors c.in-TooMany.is) ∙ at.errors_of.ensures);
       changed = refl;
     }
 
@@ -95,6 +90,6 @@ returns-in-Unaccounted c =
     let start = at in
     let g = start.args.group in record {
       told = judgement-of g _ _ (relied_on start.args.legal start.args.pointers) (parity_syndrome_lem g _ at.parity.ensures)
-          (check_syndrome_lem g _ at.check_syndrome_lem.ensures) _ (sym (ap told_errors c.enum_told-in-Unaccounted-1.given.1) ∙ at.errors_of.ensures);
+          (check_syndrome_lem g _ at.check_syndrome-s2.ensures) _ (sym (ap told_errors c.in-Unaccounted.is) ∙ at.errors_of.ensures);
       changed = refl;
     }
