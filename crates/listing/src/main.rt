@@ -1,6 +1,7 @@
 // The listing program (document 01, "Bench readings"): reads data from standard input and prints the
 // words of the 6250 record that is written from them, a line for each group; or the refusal.
 #![tactic(auto)]
+
 ghost use Rattle.std.specs.Prelude.{◌+◌, ◌*◌, ◌≤◌, length};
 ghost use Rattle.rectangular.specs.Constants.{numbers_per_group};
 ghost use Rattle.page.specs.Page.{Printed};
