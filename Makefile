@@ -2,11 +2,11 @@
 # make test       the gate: every proof, every must-fail edit, every test
 # make benchmark  how fast the calls are, beside Rust written for speed and beside memcpy
 # make stack      how much stack each call takes
-.PHONY: run test benchmark stack
+.PHONY: run programs test benchmark stack
 
 ARCHIVE := target/staticlib/librindthok.a
 PROGRAMS := target/bin/listing target/bin/report target/bin/bench
-SOURCES := $(shell find crates -name '*.rt' -o -name '*.antt') crates.txt
+SOURCES := $(shell find crates -name out -prune -o \( -name '*.rt' -o -name '*.antt' \) -print) crates.txt
 
 run: $(PROGRAMS) target/write_and_read target/file_log
 	printf '\001' | ./target/bin/listing
@@ -23,10 +23,15 @@ target/write_and_read target/file_log: target/%: examples/%.c include/rindthok.h
 
 # rt proves the crate and what it stands on, and builds only if every function is proved.
 $(ARCHIVE): $(SOURCES)
-	rt staticlib rindthok
+	cd crates/rindthok && rt lib
+	mkdir -p $(@D) && cp crates/rindthok/out/librindthok.a $@
 
-$(PROGRAMS) &: $(SOURCES)
-	rt check listing report bench
+# A program is built by running it, here on no input.
+programs: $(PROGRAMS)
+
+$(PROGRAMS): target/bin/%: $(SOURCES)
+	cd crates/$* && rt run </dev/null >/dev/null
+	mkdir -p $(@D) && cp crates/$*/out/$* $@
 
 # How fast the calls are, beside an implementation in Rust and beside memcpy; draws docs/benchmark.svg.
 benchmark: $(ARCHIVE)

@@ -1,5 +1,5 @@
-/* Stands in front of the C library's read, write and close, and fails as EDGES_SHIM says: in one way, or, where a read or a
- * write breaks behind so many bytes, at the close too. Only the standard streams are touched. */
+/* Stands in front of the C library's read, write and fsync, and fails as EDGES_SHIM says: in one way, or, where a read or a
+ * write breaks behind so many bytes, at the fsync too. Only the standard streams and what is stored are touched. */
 #include <errno.h>
 #include <stdio.h>
 #include <stdlib.h>
@@ -81,13 +81,12 @@ ssize_t write(int file, const void *bytes, size_t count)
     return syscall(SYS_write, file, bytes, count);
 }
 
-/* A network file system may tell only at the close that bytes were lost; the descriptor is closed all the same. */
-int close(int file)
+/* A network file system may tell only when it stores a file that bytes were lost. */
+int fsync(int file)
 {
-    int answer = (int)syscall(SYS_close, file);
-    if (file == STDOUT_FILENO && asked("close")) {
+    if (asked("fsync")) {
         errno = EIO;
         return -1;
     }
-    return answer;
+    return (int)syscall(SYS_fsync, file);
 }

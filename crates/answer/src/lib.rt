@@ -4,7 +4,7 @@ ghost use Rattle.std.specs.Prelude.{◌≡◌};
 ghost use Rattle.answer.specs.Answer.{number_of, refused_for, told_written};
 
 // Why a call is refused, in the order of document 01's table and then of document 02's requests.
-#[derive(Drop)]
+#[derive(Clone, Copy)]
 pub enum Reason {
     // A length is outside the limits.
     Length,
@@ -55,14 +55,14 @@ impl Reason {
 }
 
 // A refusal: its reason and its place, which is a group, a character, a word or a physical track, or 0.
-#[derive(Drop)]
+#[derive(Clone, Copy)]
 pub struct Refusal {
     pub reason: Reason,
     pub place: usize,
 }
 
 // What writing a record answers, at either density, or a log: the number of its groups, characters or bytes, or the refusal.
-#[derive(Drop)]
+#[derive(Clone, Copy)]
 pub enum Written {
     Delivered(usize),
     Refused(Refusal),

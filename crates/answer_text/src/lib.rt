@@ -1,4 +1,6 @@
 // What programs print of an answer: the line of a refusal.
+#![tactic(auto)]
+
 ghost use Rattle.answer.specs.Answer.{number_of};
 ghost use Rattle.page.specs.Page.{Printed};
 ghost use Rattle.answer_text.specs.Refusal.{refusal_text};

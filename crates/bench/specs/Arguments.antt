@@ -22,10 +22,10 @@ read_of High NoDirection = Wrong
 read_of Low Forward = Read800 false
 read_of Low Backward = Read800 true
 read_of Low NoDirection = Wrong
-read_of NoDensity direction = Wrong
+read_of NoDensity _ = Wrong
 
 -- so many words, the program's own name among them: writing takes a density, reading a density and a direction
 abbrev pub request_of : ℕ → Action → Density → Direction → Request
-request_of count Write density direction = cond (eqb count 3) (write_of density) Wrong
+request_of count Write density _ = cond (eqb count 3) (write_of density) Wrong
 request_of count Read density direction = cond (eqb count 4) (read_of density direction) Wrong
-request_of count NoAction density direction = Wrong
+request_of count NoAction _ _ = Wrong

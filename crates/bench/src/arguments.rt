@@ -1,6 +1,9 @@
 // The words of the command line, and what they ask for.
-ghost use Rattle.std.specs.Prelude.{◌≡◌};
+ghost use Rattle.std.specs.Prelude.{◌≡◌, ◌≤◌};
 ghost use Rattle.bench.specs.Arguments.{write_of, read_of, request_of};
+
+use std::env::FillError;
+use std::rt::Env;
 
 #[derive(Drop)]
 enum Action {
@@ -112,26 +115,54 @@ fn request_of(count: usize, action: Action, density: Density, direction: Directi
     }
 }
 
-// A word longer than every word that is known does not fit, and is none of them.
-fn first_word() -> Action {
+// The bytes of a word that is to be known, at the front of the space, and how many they are. A word longer than every word that
+// is known does not fit, and is none of them; nor is one that is missing.
+fn word_at(rt: &HostRuntime, place: usize, word: &mut [u8; 16]) -> usize
+    ensures { result ≤ 16 }
+{
+    match rt.arg(place, word) {
+        Ok(size) => size,
+        Err(_) => 0,
+    }
+}
+
+fn first_word(rt: &HostRuntime) -> Action {
     let mut word = [0u8; 16];
-    let size = os::arg(1, &mut word);
+    let size = word_at(rt, 1, &mut word);
     action_of(&word[..size])
 }
 
-fn second_word() -> Density {
+fn second_word(rt: &HostRuntime) -> Density {
     let mut word = [0u8; 16];
-    let size = os::arg(2, &mut word);
+    let size = word_at(rt, 2, &mut word);
     density_of(&word[..size])
 }
 
-fn third_word() -> Direction {
+fn third_word(rt: &HostRuntime) -> Direction {
     let mut word = [0u8; 16];
-    let size = os::arg(3, &mut word);
+    let size = word_at(rt, 3, &mut word);
     direction_of(&word[..size])
 }
 
+// How many words there are, the program's own name among them. No request has more than four, so that from five on they are not
+// counted.
+fn word_count(rt: &HostRuntime) -> usize {
+    let mut count = 0;
+    for place in 0..5 {
+        if let Err(FillError::NotPresent) = rt.arg(place, &mut []) {
+            return count;
+        }
+        count = place + 1;
+    }
+    count
+}
+
 // What the program was started to do.
-pub(crate) fn asked() -> Request {
-    request_of(os::arg_count(), first_word(), second_word(), third_word())
+pub(crate) fn asked(rt: &HostRuntime) -> Request {
+    request_of(
+        word_count(rt),
+        first_word(rt),
+        second_word(rt),
+        third_word(rt),
+    )
 }

@@ -9,7 +9,7 @@ use generator::{of_b1, of_b2, of_b3, of_b4, of_b5, of_b6, of_b7};
 use rectangular::Code6250;
 
 // The track values of a group: tracks 0 to 7, track j in bits 8j to 8j + 7, and the parity track.
-#[derive(Drop)]
+#[derive(Clone, Copy)]
 pub struct Group {
     pub tracks: u64,
     pub parity: u8,

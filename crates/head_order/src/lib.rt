@@ -1,6 +1,9 @@
 // Head order: numbers between the physical tracks of the head and the algebraic tracks of the code, by a wiring card
 // (document 02, request 2.4) or by the standard one, which has note 11's order (document 000; document 01, "Head order").
 // What is refused, and the calls; the crate arrangement moves.
+
+#![tactic(auto)]
+
 pub mod card;
 pub mod standard;
 mod ways;

@@ -1,5 +1,6 @@
 // The listing program (document 01, "Bench readings"): reads data from standard input and prints the
 // words of the 6250 record that is written from them, a line for each group; or the refusal.
+#![tactic(auto)]
 ghost use Rattle.std.specs.Prelude.{◌+◌, ◌*◌, ◌≤◌, length};
 ghost use Rattle.rectangular.specs.Constants.{numbers_per_group};
 ghost use Rattle.page.specs.Page.{Printed};
@@ -63,19 +64,19 @@ fn listing(page: &mut [u8; PAGE], bytes: &[u8]) -> Text
 }
 
 // The listing of the data on standard input.
-fn listed(page: &mut [u8; PAGE]) -> Text
+fn listed(rt: &HostRuntime, page: &mut [u8; PAGE]) -> Text
     ensures { Listed page.old page.new result }
 {
     // One byte more than a record holds, so that longer data are seen and refused.
     let mut bytes = [0u8; Code6250::MOST_DATA + 1];
-    match streams::read(&mut bytes) {
+    match streams::read(&mut rt.stdin(), &mut bytes) {
         Ended::After(count) => listing(page, &bytes[..count]),
         Ended::Failed(number) => streams::unread(page, number),
     }
 }
 
-fn main() {
+fn main(rt: HostRuntime) {
     let mut page = [0u8; PAGE];
-    let text = listed(&mut page);
-    streams::finish(text, &mut page);
+    let text = listed(&rt, &mut page);
+    streams::finish(&rt, text, &mut page);
 }

@@ -1,4 +1,7 @@
 // Reading a sense log back with its group count (document 02, request 2.1): the map of the changed tracks of each group.
+
+#![tactic(auto)]
+
 mod bits;
 mod reader;
 mod stored;

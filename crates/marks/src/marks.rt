@@ -12,7 +12,7 @@ use slices::turned_place;
 
 // What is shown: which way the record passed the head, whether it was delivered, and the refused column;
 // a place behind the last column is none.
-#[derive(Drop)]
+#[derive(Clone, Copy)]
 pub struct View {
     pub backward: bool,
     pub delivered: bool,

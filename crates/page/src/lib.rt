@@ -1,4 +1,6 @@
 // A page: text that a program makes before it hands it over.
+#![tactic(auto)]
+
 ghost use Rattle.page.specs.Page.{Printed, Kept, decimal_text, hexadecimal_text};
 
 // How many bytes a page holds.

@@ -1,4 +1,7 @@
 // Reading a record at 6250 bits per inch, forward and backward (document 01, "The 6250 record" and "Backward").
+
+#![tactic(auto)]
+
 mod direction;
 mod reader;
 

@@ -1,4 +1,7 @@
 // Reading a record at 800 bits per inch, forward and backward (document 01, "The 800 record" and "Backward").
+
+#![tactic(auto)]
+
 mod reader;
 
 pub use reader::{read_backward, read_forward, read_record, store};

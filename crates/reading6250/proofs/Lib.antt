@@ -2,4 +2,3 @@ pub mod StrayBits
 pub mod Packing
 pub mod Receiving
 pub mod GroupJudged
-pub mod WalkerSteps

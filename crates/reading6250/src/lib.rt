@@ -1,5 +1,8 @@
 // The groups of a 6250 reading as they are lent (document 01, "The 6250 record" and "Backward"): the first with a
 // stray bit, the walk over them in tape order, and how each is received and judged.
+
+#![tactic(auto)]
+
 mod group;
 mod received;
 mod stray;

@@ -59,24 +59,25 @@ fn behind_heading(groups: usize, length: usize, ended: Ended) -> Next
 }
 
 // Reads the log behind a heading to the front of the space.
-fn read_behind(heading: &[u8], log: &mut [u8]) -> Next
+fn read_behind(rt: &HostRuntime, heading: &[u8], log: &mut [u8]) -> Next
     requires { (length heading.now ≡ heading_length) × (length log.old ≡ most_bytes) }
     ensures { CameBehind heading.now log.new result }
 {
     let groups = pair_at(heading, 0) as usize;
     let length = pair_at(heading, 2) as usize;
-    behind_heading(groups, length, streams::read(&mut log[..length]))
+    let ended = streams::read(&mut rt.stdin(), &mut log[..length]);
+    behind_heading(groups, length, ended)
 }
 
 // Reads the next log to the front of the space.
-pub(crate) fn read_next(log: &mut [u8]) -> Next
+pub(crate) fn read_next(rt: &HostRuntime, log: &mut [u8]) -> Next
     requires { length log.old ≡ most_bytes }
     ensures { Came log.new result }
 {
     let mut heading = [0u8; HEADING];
-    let ended = streams::read(&mut heading);
+    let ended = streams::read(&mut rt.stdin(), &mut heading);
     if streams::is_whole(ended, HEADING) {
-        return read_behind(&heading, log);
+        return read_behind(rt, &heading, log);
     }
     no_heading(ended)
 }

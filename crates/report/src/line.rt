@@ -90,6 +90,7 @@ fn put_log(
 
 // Reads the next log, and puts the line that is due.
 pub(crate) fn put_next(
+    rt: &HostRuntime,
     page: &mut [u8; PAGE],
     held: usize,
     total: u64,
@@ -99,7 +100,7 @@ pub(crate) fn put_next(
     requires { (length log.old ≡ most_bytes) × (length maps.old ≡ maps_lent) × (total + most_marks < 2 ^ 64) }
     ensures { NextPut total page.old held page.new result }
 {
-    match read_next(log) {
+    match read_next(rt, log) {
         Next::Log(heading) => {
             let length = heading.length;
             put_log(page, held, total, heading.groups, &log[..length], maps)

@@ -1,6 +1,8 @@
 // The report program (document 02, request 2.1): reads sense logs from standard input, each after its group count and its
 // length, and prints a line with the number of marks of each and one with their total; or the refusal of the first that is bad
 // or cut.
+#![tactic(auto)]
+
 mod input;
 mod line;
 mod part;
@@ -27,32 +29,32 @@ fn too_many(page: &mut [u8; PAGE]) -> Text
 }
 
 // Hands over the last of a report, and tells why it is not whole, also where this last part could not be written.
-fn hand_over(page: &mut [u8; PAGE], report: Report)
+fn hand_over(rt: &HostRuntime, page: &mut [u8; PAGE], report: Report)
     requires { Reported page.old report × (report.handed + report.held < 2 ^ 64) }
 {
     let end = report.end;
     match end {
         End::Made => {
-            hand_part(page, report.held, report.handed, true);
+            hand_part(rt, page, report.held, report.handed, true);
         }
         End::Unread(number) => {
-            hand_part(page, report.held, report.handed, true);
+            hand_part(rt, page, report.held, report.handed, true);
             let text = streams::unread(page, number);
-            streams::finish(text, page);
+            streams::finish(rt, text, page);
         }
         End::TooMany => {
-            hand_part(page, report.held, report.handed, true);
+            hand_part(rt, page, report.held, report.handed, true);
             let text = too_many(page);
-            streams::finish(text, page);
+            streams::finish(rt, text, page);
         }
         End::Told => {}
     }
 }
 
-fn main() {
+fn main(rt: HostRuntime) {
     let mut page = [0u8; PAGE];
     let mut log = [0u8; input::MOST_BYTES];
     let mut maps = [0u16; MAPS];
-    let made = make_report(&mut page, &mut log, &mut maps);
-    hand_over(&mut page, made);
+    let made = make_report(&rt, &mut page, &mut log, &mut maps);
+    hand_over(&rt, &mut page, made);
 }

@@ -24,14 +24,19 @@ fn handed_by(sent: Ended, held: usize, handed: usize) -> Handed
     Handed::Unwritten
 }
 
-// Hands over what the page holds, behind so many bytes that were handed over before. With the last part standard output is
-// closed.
-pub(crate) fn hand_part(page: &mut [u8; PAGE], held: usize, handed: usize, last: bool) -> Handed
+// Hands over what the page holds, behind so many bytes that were handed over before. With the last part a file is stored.
+pub(crate) fn hand_part(
+    rt: &HostRuntime,
+    page: &mut [u8; PAGE],
+    held: usize,
+    handed: usize,
+    last: bool,
+) -> Handed
     requires { Due handed page.old held × (handed + held < 2 ^ 64) }
     ensures { HandedOver held handed page.old page.new result }
 {
     if last {
-        return handed_by(streams::finish_behind(page, held, handed), held, handed);
+        return handed_by(streams::finish_behind(rt, page, held, handed), held, handed);
     }
-    handed_by(streams::pass_on(page, held, handed), held, handed)
+    handed_by(streams::pass_on(rt, page, held, handed), held, handed)
 }

@@ -39,7 +39,12 @@ fn ended(end: End, held: usize, handed: usize) -> Report
 }
 
 // Makes the report of standard input.
-pub(crate) fn make_report(page: &mut [u8; PAGE], log: &mut [u8], maps: &mut [u16]) -> Report
+pub(crate) fn make_report(
+    rt: &HostRuntime,
+    page: &mut [u8; PAGE],
+    log: &mut [u8],
+    maps: &mut [u16],
+) -> Report
     requires { (length log.old ≡ most_bytes) × (length maps.old ≡ maps_lent) }
     ensures text { Reported page.new result }
     ensures bound { result.handed + result.held < 2 ^ 64 }
@@ -50,13 +55,13 @@ pub(crate) fn make_report(page: &mut [u8; PAGE], log: &mut [u8], maps: &mut [u16
     let mut k: u64 = 0;
     while k < MOST_LOGS {
         if held > NEARLY_FULL {
-            let Handed::Whole(gone) = hand_part(page, held, handed, false) else {
+            let Handed::Whole(gone) = hand_part(rt, page, held, handed, false) else {
                 return ended(End::Told, held, handed);
             };
             handed = gone;
             held = 0;
         }
-        match put_next(page, held, total, log, maps) {
+        match put_next(rt, page, held, total, log, maps) {
             Line::Marks(standing) => {
                 held = standing.held;
                 total = standing.total;

@@ -1,6 +1,9 @@
 // Judging a whole record at 6250 bits per inch without writing (document 01, "The 6250 record" and "Where a call is
 // turned down"). Its corrected bytes and the tracks that are changed in each group are gathered into slices that the caller lends,
 // and what it comes to is told: every call that reads a record does it by this.
+
+#![tactic(auto)]
+
 mod corrected;
 mod gather;
 mod judge;
@@ -13,7 +16,7 @@ use track_counts::Counts;
 pub const SHORT: usize = 64;
 
 // The figures of a delivery: the data's length, how many words of the reading differ from the record, and how many in each track.
-#[derive(Drop)]
+#[derive(Clone, Copy)]
 pub struct Figures {
     pub length: usize,
     pub changes: usize,
@@ -21,7 +24,7 @@ pub struct Figures {
 }
 
 // What reading a record answers.
-#[derive(Drop)]
+#[derive(Clone, Copy)]
 pub enum Read {
     Delivered(Figures),
     Refused(Refusal),

@@ -1,5 +1,8 @@
 // Judging a whole record at 800 bits per inch without writing (document 01, "The 800 record" and "Where a call is turned down"):
 // each check in its order, told whether space is enough, and, from one pass over the characters, what the record comes to.
+
+#![tactic(auto)]
+
 mod characters;
 mod gather;
 mod judge;

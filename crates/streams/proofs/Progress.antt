@@ -7,6 +7,8 @@ use native.Mathlib.Nat.{zero-add}
 use native.Mathlib.Omega.{arith}
 use lib.ListN.{length, drop, take, length-drop}
 use lib.Seq.{length-take-le}
+use Rattle.std.specs.Prelude.{IfOk, Result, Ok, Err}
+use Rattle.std.specs.declared.io.Error.{Error}
 use Rattle.io.specs.Counts.{IsPrefixLen}
 use Rattle.transfer.specs.Moved.{Within, ended_by}
 use Rattle.streams.specs.Ended.{Filled, Taken, Bounded, ended_behind}
@@ -23,6 +25,11 @@ pub progress : (space : List ℕ) (count rest more : ℕ) (came : Moved) → cou
 progress space count rest more came h r e w =
     let within : Within (Bytes more) rest = subst (λ (m : Moved). Within m rest) e w in
     (within.0, omega (arith, within.1, r, rest_length space count))
+
+-- what a read says that it gave is within the space
+pub given_within : (answer : Result ℕ Error) (space : List ℕ) → IfOk answer (λ n. IsPrefixLen n space) → IfOk answer (λ n. n ≤ length space)
+given_within (Ok n) space h = h.0
+given_within (Err error) space h = tt
 
 pub counted : (space : List ℕ) (count : ℕ) → count ≤ length space → IsPrefixLen count space
 counted space count h = (h, sym (length-take-le count space h))

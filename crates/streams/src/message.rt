@@ -7,19 +7,20 @@ use crate::Text;
 use page::{PAGE, decimal, put};
 use transfer::{Ended, INTERRUPTED};
 
-const DEVICE_FAILED: u32 = libc::EIO as u32;
+// The usual errors by number, as Linux has them: EIO, EBADF, EAGAIN, EISDIR, EFBIG, ENOSPC and EPIPE.
+const DEVICE_FAILED: u32 = 5;
 
-const NOT_OPEN: u32 = libc::EBADF as u32;
+const NOT_OPEN: u32 = 9;
 
-const NOT_READY: u32 = libc::EAGAIN as u32;
+const NOT_READY: u32 = 11;
 
-const DIRECTORY: u32 = libc::EISDIR as u32;
+const DIRECTORY: u32 = 21;
 
-const AT_LIMIT: u32 = libc::EFBIG as u32;
+const AT_LIMIT: u32 = 27;
 
-const NO_SPACE: u32 = libc::ENOSPC as u32;
+const NO_SPACE: u32 = 28;
 
-const NO_READER: u32 = libc::EPIPE as u32;
+const NO_READER: u32 = 32;
 
 // What the number of an error means.
 fn meaning(page: &mut [u8; PAGE], held: usize, number: u32) -> usize

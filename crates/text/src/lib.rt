@@ -1,4 +1,6 @@
 // Numbers out of text, as programs are handed them: decimal, parted by blanks, a line at a time.
+#![tactic(auto)]
+
 mod line;
 mod number;
 

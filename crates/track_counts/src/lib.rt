@@ -12,7 +12,7 @@ use rectangular::Code6250;
 
 // How many words are changed in each algebraic track: twelve bits for each, tracks 0 to 4 in one number and 5 to 8 in
 // another, so that they are counted, and handed on, in two numbers (decision D34).
-#[derive(Drop)]
+#[derive(Clone, Copy)]
 pub struct Counts {
     low: u64,
     high: u64,

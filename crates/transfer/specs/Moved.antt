@@ -1,6 +1,8 @@
--- What came of one call of C's `read` or `write`, by its answer and by errno.
+-- What came of one read or one write, by its answer.
 -- Assumes nothing.
-use Rattle.std.specs.Prelude.{ℕ, zero, suc, ◌<◌, ◌≤◌, ◌≡◌, Bool, true, false, cond, eqb, ℤ, pos, negsuc}
+use Rattle.std.specs.Prelude.{ℕ, zero, suc, ◌<◌, ◌≤◌, ◌≡◌, Bool, true, false, cond, eqb, ℤ, pos, negsuc, Option, None, Some, Result, Ok, Err}
+use Rattle.std.specs.IoError.{raw_os_error}
+use Rattle.std.specs.declared.io.Error.{Error}
 use Rattle.transfer.specs.declared.Moved.{Moved}
 use Rattle.transfer.specs.declared.Moved.TheVariants.{Bytes, Nothing, Interrupted, Failed}
 use Rattle.transfer.specs.declared.Ended.{Ended}
@@ -11,6 +13,14 @@ abbrev pub error_number : ℤ → ℕ
 error_number (pos n) = n
 error_number (negsuc n) = 0
 
+-- an error that is not the system's has no number, and is told as 0
+abbrev pub told_number : Option ℤ → ℕ
+told_number None = 0
+told_number (Some number) = error_number number
+
+abbrev pub number_of : Error → ℕ
+number_of error = told_number (raw_os_error error)
+
 -- EINTR: a signal came before any byte was moved
 abbrev pub interruption : ℕ
 interruption = 4
@@ -18,15 +28,15 @@ interruption = 4
 abbrev pub failed_by : ℕ → Moved
 failed_by number = cond (eqb number interruption) Interrupted (Failed number)
 
--- C answers how many bytes were moved, or -1
-abbrev pub moved_by : ℤ → ℤ → Moved
-moved_by (pos zero) error = Nothing
-moved_by (pos (suc n)) error = Bytes (suc n)
-moved_by (negsuc n) error = failed_by (error_number error)
+-- a call answers how many bytes it moved, or with its error
+abbrev pub moved_by : Result ℕ Error → Moved
+moved_by (Ok zero) = Nothing
+moved_by (Ok (suc n)) = Bytes (suc n)
+moved_by (Err error) = failed_by (number_of error)
 
--- what came of a call that gave this answer, by errno, of which no contract tells what it was
-abbrev pub Came : ℤ → Moved → Type 0
-Came answer moved = (error : ℤ) × (moved ≡ moved_by answer error)
+-- what came of a call that gave this answer
+abbrev pub Came : Result ℕ Error → Moved → Type 0
+Came answer moved = moved ≡ moved_by answer
 
 abbrev pub is_interrupted : Moved → Bool
 is_interrupted (Bytes n) = false

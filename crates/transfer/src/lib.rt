@@ -1,10 +1,14 @@
-// What came of one call of C's `read` or `write`.
+// What came of one read or one write.
+#![tactic(auto)]
+
 ghost use Rattle.std.specs.Prelude.{◌≡◌};
-ghost use Rattle.transfer.specs.Moved.{error_number, failed_by, moved_by, Came, is_interrupted, ended_by};
+ghost use Rattle.transfer.specs.Moved.{error_number, number_of, failed_by, Came, is_interrupted, ended_by};
+
+use std::io;
 
 // So many bytes were moved; none was, which for a read is the end of the input; a signal came first, and the call is to
 // be made again; or it failed, with the number of the error.
-#[derive(Drop)]
+#[derive(Clone, Copy)]
 pub enum Moved {
     Bytes(usize),
     Nothing,
@@ -13,20 +17,30 @@ pub enum Moved {
 }
 
 // How reading or writing ended: after so many bytes, or in an error, with its number.
-#[derive(Drop)]
+#[derive(Clone, Copy)]
 pub enum Ended {
     After(usize),
     Failed(u32),
 }
 
 // The error of a call that a signal interrupts.
-pub const INTERRUPTED: u32 = libc::EINTR as u32;
+pub const INTERRUPTED: u32 = 4;
 
-// The number of an error, as errno holds it; none is below 0.
+// The number of an error, as the system has it; none is below 0.
 pub fn error_number(error: i32) -> u32
     ensures { result ≡ error_number error }
 {
     if error > 0 { error as u32 } else { 0 }
+}
+
+// The number of an error of reading or writing; 0 stands for one that is not the system's.
+pub fn number_of(error: &io::Error) -> u32
+    ensures { result ≡ number_of error.now }
+{
+    match error.raw_os_error() {
+        Some(number) => error_number(number),
+        None => 0,
+    }
 }
 
 // What came of a call that failed with this error.
@@ -39,24 +53,15 @@ fn failed(number: u32) -> Moved
     Moved::Failed(number)
 }
 
-// C answers how many bytes it moved, or -1, and then errno tells why.
-fn outcome(answer: isize, error: i32) -> Moved
-    ensures { result ≡ moved_by answer error }
-{
-    if answer > 0 {
-        return Moved::Bytes(answer as usize);
-    }
-    if answer < 0 {
-        return failed(error_number(error));
-    }
-    Moved::Nothing
-}
-
-// What came of the last call of C's, which gave this answer.
-pub fn came(answer: isize) -> Moved
+// What came of a call that gave this answer: how many bytes it moved, or why it moved none.
+pub fn came(answer: io::Result<usize>) -> Moved
     ensures { Came answer result }
 {
-    outcome(answer, os::errno())
+    match answer {
+        Ok(0) => Moved::Nothing,
+        Ok(count) => Moved::Bytes(count),
+        Err(error) => failed(number_of(&error)),
+    }
 }
 
 pub fn is_interrupted(moved: Moved) -> bool

@@ -1,4 +1,7 @@
 // Writing a record at 800 bits per inch (document 01, "The 800 record").
+
+#![tactic(auto)]
+
 mod character;
 mod writer;
 

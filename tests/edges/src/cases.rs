@@ -27,7 +27,12 @@ pub const ALL: &[Case] = &[
         First(100),
         &[Unwritten(5)],
     ),
-    ("EIO of close", &[Shim("close")], All, &[Unwritten(5)]),
+    (
+        "EIO of fsync",
+        &[Limit(1 << 20), Shim("fsync")],
+        All,
+        &[Unwritten(5)],
+    ),
     ("no space", &[Full], Nothing, &[Unwritten(28)]),
     ("closed output", &[Closed(1)], Nothing, &[Unwritten(9)]),
     ("no reader", &[Unheard], Nothing, &[Unwritten(32)]),
@@ -72,10 +77,10 @@ pub const PAGES: &[Case] = &[
         Of(500000),
         &[Unread(5)],
     ),
-    // the report that a read broke off is closed like any other
+    // the report that a read broke off is stored like any other
     (
-        "EIO of a late read and of close",
-        &[Shim("read 500000 close")],
+        "EIO of a late read and of fsync",
+        &[Limit(1 << 20), Shim("read 500000 fsync")],
         Of(500000),
         &[Unwritten(5), Unread(5)],
     ),

@@ -11,32 +11,26 @@ use Rattle.register.proofs.Bit.{get_or_bits_of, of_bits_lt, of_bits_drop, of_bit
 use Rattle.track_order.specs.Order.{arranged, arranged_map}
 use Rattle.track_order.proofs.Order.{length_arranged, get_or_arranged}
 use Rattle.track_order.proofs.Restored.{arranged_digits}
+use Rattle.arrangement.proofs.arrange_bits.Invariants.{taken, gathered}
 use Rattle.arrangement.proofs.arrange_bits.Goals as goal
 
 module _ (way : List ℕ) (map : ℕ) where
-  -- the nine bits as the way takes them, and the number that those from k on make
-  abbrev taken : List ℕ
-  taken = arranged way (bits_of 9 map)
-
-  gathered : ℕ → ℕ
-  gathered k = of_bits (drop k taken)
-
-  gathered_none : gathered 9 ≡ 0
+  gathered_none : gathered way map 9 ≡ 0
   unfolding gathered of_bits
-  gathered_none = ap of_bits (drop_of_length-le taken {i = 9} (omega (arith, length_arranged way (bits_of 9 map))))
+  gathered_none = ap of_bits (drop_of_length-le (taken way map) {i = 9} (omega (arith, length_arranged way (bits_of 9 map))))
 
-  gathered-more : (k : ℕ) → k < 9 → get_or way k 0 < 9 → gathered k ≡ bit (get_or way k 0) map + 2 * gathered (suc k)
+  gathered-more : (k : ℕ) → k < 9 → get_or way k 0 < 9 → gathered way map k ≡ bit (get_or way k 0) map + 2 * gathered way map (suc k)
   unfolding gathered
   gathered-more k h below =
-      of_bits_drop taken k (omega (arith, length_arranged way (bits_of 9 map)))
-      ∙ ap (λ (b : ℕ). b + 2 * gathered (suc k)) (get_or_arranged way (bits_of 9 map) k h ∙ get_or_bits_of 9 map (get_or way k 0) below)
+      of_bits_drop (taken way map) k (omega (arith, length_arranged way (bits_of 9 map)))
+      ∙ ap (λ (b : ℕ). b + 2 * gathered way map (suc k)) (get_or_arranged way (bits_of 9 map) k h ∙ get_or_bits_of 9 map (get_or way k 0) below)
 
-  gathered-lt : (k : ℕ) → gathered k < 512
+  gathered-lt : (k : ℕ) → gathered way map k < 512
   unfolding gathered
   gathered-lt k =
-      let all : of_bits taken < 512 =
-      subst (λ (n : ℕ). of_bits taken < 2 ^ n) (length_arranged way (bits_of 9 map)) (of_bits_lt taken (arranged_digits way map)) in
-      omega (arith, of_bits_drop_le taken k)
+      let all : of_bits (taken way map) < 512 =
+      subst (λ (n : ℕ). of_bits (taken way map) < 2 ^ n) (length_arranged way (bits_of 9 map)) (of_bits_lt (taken way map) (arranged_digits way map)) in
+      omega (arith, of_bits_drop_le (taken way map) k)
 
 pub loop-k-init : goal.loop-k-init
 loop-k-init c = (search rules, sym (gathered_none _ _))

@@ -3,4 +3,4 @@
 use Rattle.arrangement.proofs.card.way.Goals as goal
 
 pub returns-in-Algebraic : goal.returns-in-Algebraic
-returns-in-Algebraic c = rw c.enum_told-in-Algebraic-1.given.1 c.inverse.ensures
+returns-in-Algebraic c = rw c.in-Algebraic.is c.inverse.ensures

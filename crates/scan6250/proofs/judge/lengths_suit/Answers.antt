@@ -1,0 +1,30 @@
+-- `scan6250::judge::lengths_suit` meets its contract.
+-- Assumes nothing.
+use mathlib.Core.Path.{sym, ap, ap₂, ◌∙◌}
+use mathlib.Core.Bool.{Bool, ◌&&◌}
+use Prim.Native.Nat.{ℕ, ◌*◌}
+use native.Mathlib.Nat.{mul_comm}
+use native.Mathlib.Omega.{arith}
+use borrow.Author.Tests.{lt-ltb, le-leb, lt-leb}
+use lib.Dec.{ltb, leb, eqb}
+use Rattle.record6250.specs.Read.{lengths_suit}
+use Rattle.scan6250.proofs.judge.lengths_suit.Goals as goal
+
+pub returns-then-maps-eq0 : goal.returns-then-maps-eq0
+unfolding lengths_suit
+returns-then-maps-eq0 c =
+    let args = c.args in
+    sym (ap (λ (m : ℕ). (ltb 0 m && leb m 586) && eqb args.words (9 * m)) c.if-maps-eq0.true)
+
+pub returns-then-maps-gt-MOST_GROUPS : goal.returns-then-maps-gt-MOST_GROUPS
+unfolding lengths_suit
+returns-then-maps-gt-MOST_GROUPS c =
+    let args = c.args in
+    sym (ap₂ (λ (p q : Bool). (p && q) && eqb args.words (9 * args.maps)) (lt-ltb 0 args.maps (omega (arith, c.if-maps-gt-MOST_GROUPS.true))) (lt-leb args.maps 586 c.if-maps-gt-MOST_GROUPS.true))
+
+pub returns : goal.returns
+unfolding lengths_suit
+returns c =
+    let args = c.args in
+    ap (eqb args.words) (mul_comm args.maps 9)
+    ∙ sym (ap₂ (λ (p q : Bool). (p && q) && eqb args.words (9 * args.maps)) (lt-ltb 0 args.maps (omega (arith, c.if-maps-eq0.false))) (le-leb args.maps 586 c.if-maps-gt-MOST_GROUPS.false))
