@@ -1,6 +1,9 @@
 // The library for C: each call on slices of numbers, each answer as numbers. A call returns 0 for a
 // delivery, or the refusal's number, and stores the refusal's place, or 0. What it promises is one relation for all
 // calls, `Called`: the answer, the figures that are stored, the output, and the notice's terms.
+
+#![tactic(auto)]
+
 mod at6250;
 mod at800;
 mod card;

@@ -1,0 +1,13 @@
+-- `rindthok::at800::read_record` meets its contract, by what `reader800::read_record` and `read_status` ensure.
+-- Assumes nothing.
+use Rattle.terms.specs.Call.{read, answer_to, result_of}
+use Rattle.terms.specs.Reading.{at800, read_answer, read_data}
+use Rattle.rindthok.proofs.Called.{called}
+use Rattle.rindthok.proofs.at800.read_record.Goals as goal
+
+pub returns : goal.returns
+unfolding answer_to result_of read_answer read_data
+returns c =
+    let args = c.args in
+    let done = c.read_record-answer in
+    called (read (at800 args.backward args.characters.now)) _ _ _ _ _ _ _ done.ensures.answer done.ensures.output c.read_status.ensures

@@ -1,0 +1,15 @@
+-- `rindthok::card::rindthok_card_map_to_physical` meets its contract, by what the routine and `map_status` ensure.
+-- Assumes nothing.
+use mathlib.Core.List.{[]}
+use Rattle.terms.specs.Call.{move_map, answer_to, result_of}
+use Rattle.terms.proofs.Terms.{nothing_stored}
+use Rattle.track_order.specs.declared.Toward.TheVariants.{Physical}
+use Rattle.rindthok.proofs.Called.{called}
+use Rattle.rindthok.proofs.card.rindthok_card_map_to_physical.Goals as goal
+
+pub returns : goal.returns
+unfolding answer_to result_of
+returns c =
+    let args = c.args in
+    let done = c.map in
+    called (move_map Physical args.card.now args.map) _ [] [] _ _ _ _ done.ensures.answer (nothing_stored _) c.map_status.ensures
