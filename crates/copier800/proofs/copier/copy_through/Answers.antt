@@ -10,7 +10,7 @@ use Rattle.copy800.specs.Copy.{copied, copy_answer}
 use Rattle.record800.specs.Read.{answer_if}
 use Rattle.reader800.proofs.Delivered.{told}
 use Rattle.scan800.specs.Told.{told_read}
-use Rattle.copier800.proofs.Copying.{part_within, part_is, answer_copied, output_copied}
+use Rattle.copier800.proofs.Copying.{part_is, answer_copied, output_copied}
 use Rattle.copier800.proofs.copier.copy_through.Goals as goal
 
 pub store-requires : goal.store-requires
@@ -20,11 +20,8 @@ store-requires c =
 
 pub slice_bounds-write-end : goal.slice_bounds-write-end
 slice_bounds-write-end c =
-    let args = c.args in
-    let is = sym (ap told_read c.in-Delivered.is)
-    ∙ c.judge_record.ensures
-    ∙ ap (answer_if args.backward args.characters.now) c.has_space-enough.ensures in
-    rw c.store.ensures (part_within args.backward args.characters.now args.words.now _ _ _ is args.bytes.now)
+    let is = told _ _ _ _ _ _ (sym (ap told_read c.in-Delivered.is) ∙ c.judge_record.ensures) in
+    omega (arith, is.all_data, c.requires is.passes.lengths, c.store.auto.output)
 
 pub slice_bounds-write-end-in-Delivered : goal.slice_bounds-write-end-in-Delivered
 slice_bounds-write-end-in-Delivered c = sym (length-take-le _ _ (slice_bounds-write-end c))
