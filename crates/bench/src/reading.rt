@@ -13,7 +13,7 @@ use text::{LineFault, line_at};
 const ROW: usize = Code6250::NUMBERS + 1;
 
 // Why a text is turned down.
-#[derive(Drop)]
+#[derive(Clone, Copy)]
 pub(crate) enum Fault {
     Nothing,
     NotANumber,
