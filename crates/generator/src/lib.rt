@@ -6,6 +6,9 @@
 // A byte comes flipped: with its highest bit changed. A table that the compiler makes of a byte begins at 128,
 // as it takes the byte for a signed number, and it changes that bit to look up; so the two changes cancel, and
 // the byte itself is the index.
+
+#![tactic(auto)]
+
 mod b1;
 mod b2;
 mod b3;

@@ -16,7 +16,6 @@ use Rattle.indexed.proofs.Tabulate.{tabulate_same}
 use Rattle.indexed.proofs.Total.{total_same}
 use Rattle.answer.specs.Answer.{Answer, delivered, refused, refused_for}
 use Rattle.register.specs.Counts.{bit_counts}
-use Rattle.rectangular.specs.Constants.{tracks}
 use Rattle.rectangular.specs.Correction.{Judgement, changed_map}
 use Rattle.record6250.specs.Group.{is_corrected, reason_of, right_bytes, right_words}
 use Rattle.record6250.specs.Read.{padding_suits, unpadded, read_group, judgement, changed_tracks, first_unfit, read_body, read_data, changed_maps, changes, track_changes, judged_answer}

@@ -1,5 +1,8 @@
 // The rectangular code of document 000: its constants and its register. specs/ has its groups and how one that
 // was read is judged, over the width, and proofs/ the laws; the crate group6250 computes with them.
+
+#![tactic(auto)]
+
 ghost use Rattle.std.specs.Prelude.{◌≡◌};
 ghost use Rattle.rectangular.specs.Constants.{times_t, times_power};
 

@@ -1,6 +1,9 @@
 // Numbers as polynomials over two elements, and shift registers on them: specs/ has the definitions and
 // proofs/ the laws that both densities' codes use, over the width. Its code is the product that tables of a
 // matrix stand for.
+
+#![tactic(auto)]
+
 ghost use Rattle.std.specs.Prelude.{◌≡◌};
 ghost use Rattle.indexed.specs.Rule.{value_at};
 ghost use Rattle.register.specs.Matrix.{product};

@@ -2,7 +2,7 @@
 -- are the whole product.
 -- Assumes nothing.
 use mathlib.Core.Path.{◌≡◌, refl, sym, ap, ◌∙◌}
-use Prim.Native.Nat.{ℕ, ◌+◌, ◌-◌, ◌/◌}
+use Prim.Native.Nat.{ℕ, ◌+◌, ◌/◌}
 use borrow.Author.Rules.{rules}
 use lib.Bits.{xor_zero_r}
 use lib.ListN.{get_or, drop}
@@ -24,9 +24,9 @@ loop-k-preserved c =
     let rest = product (drop (at.k + 1) columns) (at.left / 2) in
     let whole : c.if-left-eq1.sum ⊕ rest ≡ product columns c.args.byte =
     elim c.if-left-eq1.branch [
-      then-left-eq1 w ↦ ap (λ (s : ℕ). s ⊕ rest) w.sum-is ∙ next_column columns at.k at.sum at.left _ (search rules) (picked at.left column w.if-left-eq1.true)
-    | else-left-eq1 w ↦ ap (λ (s : ℕ). s ⊕ rest) (w.sum-is ∙ sym (xor_zero_r at.sum))
-        ∙ next_column columns at.k at.sum at.left _ (search rules) (passed_over at.left column w.if-left-eq1.false)
+      | then-left-eq1 w ↦ ap (λ (s : ℕ). s ⊕ rest) w.sum-is ∙ next_column columns at.k at.sum at.left _ (search rules) (picked at.left column w.if-left-eq1.true)
+      | else-left-eq1 w ↦ ap (λ (s : ℕ). s ⊕ rest) (w.sum-is ∙ sym (xor_zero_r at.sum))
+          ∙ next_column columns at.k at.sum at.left _ (search rules) (passed_over at.left column w.if-left-eq1.false)
     ]
     ∙ at.invariant.1 in
     (search rules, whole)

@@ -2,7 +2,7 @@
 -- is what is wanted.
 -- Assumes nothing.
 use mathlib.Core.Path.{◌≡◌}
-use Prim.Native.Nat.{◌-◌, ◌≤◌}
+use Prim.Native.Nat.{◌≤◌}
 use Rattle.rectangular.specs.Constants.{times_power}
 use Rattle.rectangular.proofs.Code6250.powered.Given as goal
 
