@@ -65,6 +65,20 @@ state_passed logs total handed held page page' s =
       short = s.short;
     }
 
+-- ---- there is room for a line
+
+abbrev pub Room : ℕ → ℕ → ℕ → List ℕ → ℕ → Type 0
+Room logs total handed page held = State logs total handed page held × (held ≤ 65472)
+
+module _ {logs total handed held handed' held' : ℕ} {page page' : List ℕ} (s : State logs total handed page held) where
+  -- as there was
+  pub room_left : held ≤ 65472 → handed' ≡ handed → page' ≡ page → held' ≡ held → Room logs total handed' page' held'
+  room_left h e f g = (state_as s e f g, omega (arith, g, h))
+
+  -- or since a page was handed over
+  pub room_made : handed' ≡ handed + held → held' ≡ 0 → Room logs total handed' page' held'
+  room_made e g = (state_as (state_passed logs total handed held page page' s) e refl g, omega (arith, g))
+
 -- ---- one text more
 
 module _ (lines text : List ℕ) (handed held held' : ℕ) (page page' : List ℕ) (room : held + length text ≤ page_size) where
