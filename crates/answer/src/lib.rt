@@ -1,5 +1,7 @@
 // How a call answers: a delivery, or a refusal with its number and its place (document 01, "Where a
 // call is turned down"). "Delivered", "refused" and "place" are that paper's terms.
+#![tactic(auto)]
+
 ghost use Rattle.std.specs.Prelude.{◌≡◌};
 ghost use Rattle.answer.specs.Answer.{number_of, refused_for, told_written};
 
