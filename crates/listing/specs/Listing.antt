@@ -46,3 +46,8 @@ listing_text bytes = answer_text (written_record bytes) (write_answer (length by
 abbrev pub Listed : List ℕ → List ℕ → Text → Type 0
 Listed page page' (Output held) = (bytes : List ℕ) × Printed (listing_text bytes) page 0 page' held
 Listed page page' (Message held) = (number : ℕ) × Printed (unread_text number) page 0 page' held
+
+-- and of data that are known: their own listing, to the last byte, also where they are too long; or a read failed
+abbrev pub ListedOf : List ℕ → List ℕ → List ℕ → Text → Type 0
+ListedOf bytes page page' (Output held) = Printed (listing_text bytes) page 0 page' held
+ListedOf bytes page page' (Message held) = (number : ℕ) × Printed (unread_text number) page 0 page' held

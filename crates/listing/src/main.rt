@@ -2,16 +2,17 @@
 // words of the 6250 record that is written from them, a line for each group; or the refusal.
 #![tactic(auto)]
 
-ghost use Rattle.std.specs.Prelude.{◌+◌, ◌*◌, ◌≤◌, length};
+ghost use Rattle.std.specs.Prelude.{◌+◌, ◌*◌, ◌≤◌, length, IfSome};
 ghost use Rattle.rectangular.specs.Constants.{numbers_per_group};
 ghost use Rattle.page.specs.Page.{Printed};
 ghost use Rattle.streams.specs.Ended.{Prints};
-ghost use Rattle.listing.specs.Listing.{word_text, group_text, record_text, listing_text, Listed};
+ghost use Rattle.listing.specs.Listing.{word_text, group_text, record_text, listing_text, Listed, ListedOf};
 
 use answer::Written;
 use answer_text::put_refusal;
 use page::{PAGE, decimal, put};
 use rectangular::Code6250;
+use std::io::Read;
 use streams::{Ended, Text};
 
 // Puts word j of a line, a space in front of all but the first.
@@ -64,13 +65,14 @@ fn listing(page: &mut [u8; PAGE], bytes: &[u8]) -> Text
     }
 }
 
-// The listing of the data on standard input.
-fn listed(rt: &HostRuntime, page: &mut [u8; PAGE]) -> Text
-    ensures { Listed page.old page.new result }
+// The listing of the data that a reader has.
+fn listed<R: Read>(input: &mut R, page: &mut [u8; PAGE]) -> Text
+    ensures listed { Listed page.old page.new result }
+    ensures input { IfSome (R.remaining input.old) (λ bytes. ListedOf bytes page.old page.new result) }
 {
     // One byte more than a record holds, so that longer data are seen and refused.
     let mut bytes = [0u8; Code6250::MOST_DATA + 1];
-    match streams::read(&mut rt.stdin(), &mut bytes) {
+    match streams::read(input, &mut bytes) {
         Ended::After(count) => listing(page, &bytes[..count]),
         Ended::Failed(number) => streams::unread(page, number),
     }
@@ -78,6 +80,6 @@ fn listed(rt: &HostRuntime, page: &mut [u8; PAGE]) -> Text
 
 fn main(rt: HostRuntime) {
     let mut page = [0u8; PAGE];
-    let text = listed(&rt, &mut page);
+    let text = listed(&mut rt.stdin(), &mut page);
     streams::finish(&rt, text, &mut page);
 }
