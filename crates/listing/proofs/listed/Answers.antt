@@ -2,17 +2,19 @@
 -- Assumes nothing.
 
 use native.Mathlib.Omega.{arith}
+use mathlib.Core.Path.{sym}
 use lib.ListN.{take}
+use lib.Seq.{length-take-le}
 use Rattle.streams.proofs.Progress.{read_whole}
 use Rattle.listing.proofs.Answers.{listed_text, listed_message}
 use Rattle.listing.proofs.Whole.{whole_listing, listed_whole, told_whole}
 use Rattle.listing.proofs.listed.Goals as goal
 
 pub slice_bounds-bytes-end : goal.slice_bounds-bytes-end
-slice_bounds-bytes-end g c = (read_whole c.read.result _ _ c.in-After.is c.read.ensures.filled).0
+slice_bounds-bytes-end g c = omega (arith, (read_whole c.read.result _ _ c.in-After.is c.read.ensures.filled).0)
 
 pub slice_bounds-listing-end : goal.slice_bounds-listing-end
-slice_bounds-listing-end g c = (read_whole c.read.result _ _ c.in-After.is c.read.ensures.filled).1
+slice_bounds-listing-end g c = sym (length-take-le _ _ (omega (arith, (read_whole c.read.result _ _ c.in-After.is c.read.ensures.filled).0)))
 
 pub returns-in-After : goal.returns-in-After
 returns-in-After g c =
