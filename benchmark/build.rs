@@ -1,4 +1,4 @@
-// Links the proved archive that `rt staticlib rindthok` writes.
+// Links the proved archive that `make target/staticlib/librindthok.a` writes.
 fn main() {
     let archive = std::env::var("CARGO_MANIFEST_DIR").unwrap() + "/../target/staticlib";
     println!("cargo:rustc-link-search=native={archive}");
