@@ -3,11 +3,11 @@
 use mathlib.Core.Path.{◌≡◌, refl, sym, ap, ◌∙◌}
 use mathlib.Core.Bool.{Bool, true, false}
 use mathlib.Core.List.{List, [], ◌∷◌, ◌++◌}
-use Prim.Native.Nat.{ℕ, ◌-◌, ◌*◌, ◌/◌}
+use Prim.Native.Nat.{ℕ, ◌-◌, ◌*◌, ◌/◌, ◌≤◌}
 use native.Mathlib.Omega.{arith}
 use borrow.Author.Tests.{leb-true, leb-false, le-leb, lt-leb}
 use lib.Dec.{leb}
-use lib.ListN.{length, take, drop}
+use lib.ListN.{length, take, drop, length-append}
 use lib.Seq.{take_at}
 use Rattle.answer.specs.Answer.{Answer, delivered, retold, output_after}
 use Rattle.copy800.proofs.Copy.{record_of}
@@ -43,7 +43,10 @@ module _ (backward : Bool) (characters before : List ℕ) (size track : ℕ) (ot
   unfolding read_data
   length_stored = ap length delivery.data_told ∙ length_data _ _ ∙ sym delivery.all_data
 
-  -- so many of them as are told are the data
+  -- so many stand there as are told, and they are the data
+  pub part_within : (bytes : List ℕ) → size ≤ length (stored bytes)
+  part_within bytes = omega (arith, length-append (stored_data (length characters - 2) (picture backward characters) track) (drop (length characters - 2) bytes), length_stored)
+
   pub part_is : (bytes : List ℕ) → take size (stored bytes) ≡ read_data backward characters
   part_is bytes =
       take_at (stored_data (length characters - 2) (picture backward characters) track) (drop (length characters - 2) bytes) size length_stored
