@@ -5,7 +5,7 @@ usage: python3 tools/respell.py          at the top of the repository, once, aft
 
 It renames what this repository defines in specs/ and in the lemma files of proofs/, and their uses there, in the clauses of src/ and in
 the must-fail edits. Types, records and modules keep their capitals; functions of src/, names that the checker makes, and names that a
-file brings in from a library stay. It stops without writing where two names would fall together.
+file brings in from a library stay. It tells where two names would fall together.
 """
 import os
 import re
