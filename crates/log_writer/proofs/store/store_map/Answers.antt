@@ -22,7 +22,7 @@ returns-then-map-eq0 c =
     }
 
 pub bounds-log-at-2 : goal.bounds-log-at-2
-bounds-log-at-2 c = rw (length-set c.args.log.now c.args.at (c.args.map % 256)) (search rules)
+bounds-log-at-2 c = rw length-set (search rules)
 
 pub returns : goal.returns
 returns c =
