@@ -1,11 +1,9 @@
 -- What a call answers, as document 01 tells it: a delivery with its values, or a refusal with its number and its place.
 -- Assumes nothing.
-use Rattle.std.specs.Prelude.{ℕ, List, [], ◌∷◌, ◌++◌, length, drop}
+use Rattle.std.specs.Prelude.{ℕ, List, [], ◌∷◌, ◌++◌, Result, Ok, Err, length, drop}
 use Rattle.answer.specs.declared.Reason.{Reason}
 use Rattle.answer.specs.declared.Reason.TheVariants.{Length, Space, StrayBits, ManyPointed, NoGroup, Padding, NoRecord, SeveralRecords, LogLength, LogContent, CardContent, CardLength}
 use Rattle.answer.specs.declared.Refusal.{Refusal}
-use Rattle.answer.specs.declared.Written.{Written}
-use Rattle.answer.specs.declared.Written.TheVariants.{Delivered, Refused}
 
 -- the numbers of document 01's table, "Where a call is turned down", and those that document 02 adds: 9 and 10 by request 2.1, 11
 -- and 12 by request 2.4
@@ -40,10 +38,14 @@ refused_for reason place = refused (number_of reason) place
 abbrev pub told_refusal : Refusal → Answer
 told_refusal r = refused_for r.reason r.place
 
+-- what a call tells that gives a value or a refusal: of the value these figures
+abbrev pub told : {T : Type 0} → (T → List ℕ) → Result T Refusal → Answer
+told figures (Ok value) = delivered (figures value)
+told figures (Err r) = told_refusal r
+
 -- what a writer tells: a delivery tells the number of groups or characters, or, of a log, its bytes
-abbrev pub told_written : Written → Answer
-told_written (Delivered count) = delivered (count ∷ [])
-told_written (Refused r) = told_refusal r
+abbrev pub told_written : Result ℕ Refusal → Answer
+told_written = told (λ count. count ∷ [])
 
 -- What the output holds after a call (the notice, first term): a delivery puts its result at the front and leaves what is
 -- behind it; a refusal leaves all of it.

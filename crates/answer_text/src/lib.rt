@@ -6,16 +6,18 @@ ghost use Rattle.page.specs.Page.{Printed};
 ghost use Rattle.answer_text.specs.Refusal.{refusal_text};
 
 use answer::Refusal;
-use page::{PAGE, decimal, put};
+use page::Page;
 
-// Puts a refusal's line: its number and its place.
-pub fn put_refusal(page: &mut [u8; PAGE], held: usize, refusal: Refusal) -> usize
-    ensures { Printed (refusal_text (number_of refusal.reason) refusal.place) page.old held page.new result }
+// Puts a refusal's line: its number and its place. By `put` and not by a `Display`, here and in the programs: std says what `write!`
+// makes only of a String, which takes memory.
+#[tactic(auto, using(page::proofs::Printed::after_both))]
+pub fn put_refusal(page: &mut Page, refusal: Refusal)
+    ensures { Printed (refusal_text (number_of refusal.reason) refusal.place) page.old page.new }
 {
     let reason = refusal.reason;
-    let begun = put(page, held, b"refused ");
-    let numbered = decimal(page, begun, reason.number() as u64);
-    let spaced = put(page, numbered, b" ");
-    let placed = decimal(page, spaced, refusal.place as u64);
-    put(page, placed, b"\n")
+    page.put(b"refused ");
+    page.decimal(reason.number() as u64);
+    page.put(b" ");
+    page.decimal(refusal.place as u64);
+    page.put(b"\n");
 }

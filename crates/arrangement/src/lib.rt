@@ -7,39 +7,56 @@
 pub mod card;
 pub mod track;
 
-ghost use Rattle.std.specs.Prelude.{◌≡◌, ◌++◌, ◌≤◌, length, drop};
+ghost use Rattle.std.specs.Prelude.{◌≡◌, ◌++◌, ◌≤◌, List, ℕ, length, drop};
 ghost use Rattle.rectangular.specs.Constants.{tracks};
 ghost use Rattle.track_order.specs.Order.{Permutation, arranged, arranged_map};
 
 use rectangular::Code6250;
+use std::marker::Model;
 
-// Nine numbers: a card, its inverse card, or a way.
+// Nine numbers: a card, or its inverse card.
 pub type Card = [u8; Code6250::TRACKS];
 
-// Puts nine words at the front of the target.
-pub fn arrange(way: &Card, source: &[u16], target: &mut [u16])
-    requires { Permutation way.now × (length source.now ≡ tracks) × (tracks ≤ length target.old) }
-    ensures { target.new ≡ arranged way.now source.now ++ drop tracks target.old }
-{
-    let mut k = 0;
-    while k < Code6250::TRACKS {
-        let from = way[k] as usize;
-        target[k] = source[from];
-        k += 1;
-    }
+// A way: nine places that are 0 to 8, each once. It is seen as these.
+#[derive(Drop)]
+pub struct Way {
+    places: Card,
 }
 
-// The map whose nine bits are taken so, gathered from the highest down.
-pub fn arrange_bits(way: &Card, map: u16) -> u16
-    requires { Permutation way.now }
-    ensures { result ≡ arranged_map way.now map }
-{
-    let mut moved: u16 = 0;
-    let mut k = Code6250::TRACKS;
-    while k > 0 {
-        k -= 1;
-        let from = way[k];
-        moved = moved * 2 + (map >> from) % 2;
+impl Model for Way {
+    ghost Value = { List ℕ };
+
+    ghost view = { λ way. way.places };
+
+    ghost invariant = { λ way. Permutation way.places };
+}
+
+impl Way {
+    // Its nine places.
+    pub fn places(self) -> Card
+        ensures { result ≡ self }
+    {
+        self.places
     }
-    moved
+
+    // Puts nine words at the front of the target.
+    pub fn arrange(&self, source: &[u16; Code6250::TRACKS], target: &mut [u16])
+        requires { tracks ≤ length target.old }
+        ensures { target.new ≡ arranged self.now source.now ++ drop tracks target.old }
+    {
+        for (k, from) in self.places.iter().enumerate() {
+            target[k] = source[*from as usize];
+        }
+    }
+
+    // The map whose nine bits are taken so, gathered from the highest down.
+    pub fn arrange_bits(&self, map: u16) -> u16
+        ensures { result ≡ arranged_map self.now map }
+    {
+        let mut moved: u16 = 0;
+        for k in (0..Code6250::TRACKS).rev() {
+            moved = moved * 2 + (map >> self.places[k]) % 2;
+        }
+        moved
+    }
 }

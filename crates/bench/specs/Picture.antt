@@ -1,8 +1,10 @@
 -- The rows of a picture.
 -- Assumes nothing.
-use Rattle.std.specs.Prelude.{ℕ, ◌+◌, ◌*◌, Bool, cond, List, get_or}
+use Rattle.std.specs.Prelude.{ℕ, ◌+◌, ◌*◌, List, get_or}
 use Rattle.indexed.specs.List.{tabulate}
 use Rattle.rectangular.specs.Constants.{tracks, most_groups}
+use Rattle.bench.specs.declared.picture.Column.{Column}
+use Rattle.bench.specs.declared.picture.Column.TheVariants.{Group, Run}
 
 -- the marks of a track in so many columns, from a column on
 unfoldable pub row_of : List ℕ → ℕ → ℕ → ℕ → List ℕ
@@ -13,5 +15,6 @@ abbrev pub most_columns : ℕ
 most_columns = most_groups + 1
 
 -- the first group of a column, or its first character
-abbrev pub first_of : Bool → ℕ → ℕ
-first_of groups column = cond groups column (32 * column)
+abbrev pub first_of : Column → ℕ → ℕ
+first_of Group column = column
+first_of Run column = 32 * column

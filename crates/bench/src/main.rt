@@ -8,37 +8,46 @@ mod at800;
 mod picture;
 mod print;
 mod reading;
+mod record;
 
-use arguments::Request;
-use page::PAGE;
-use streams::{Ended, Text};
+use arguments::{Density, Direction, Request};
+use page::Page;
+use streams::Text;
+
+// The text of a reading has so many bytes at most.
+const MOST_TEXT: usize = 65535;
 
 // What is made of the input: data, or the text of a reading.
-fn done(page: &mut [u8; PAGE], request: Request, input: &[u8]) -> Text {
+fn done(page: &mut Page, request: Request, input: &[u8]) -> Text {
     match request {
-        Request::Write6250 => at6250::write(page, input),
-        Request::Write800 => at800::write(page, input),
-        Request::Read6250(backward) => at6250::read(page, input, backward),
-        Request::Read800(backward) => at800::read(page, input, backward),
-        Request::Wrong => print::usage(page),
+        Request::Write(Density::High) => record::write::<at6250::Groups>(page, input),
+        Request::Write(Density::Low) => record::write::<at800::Characters>(page, input),
+        Request::Read(..) if input.len() > MOST_TEXT => print::too_long(page),
+        Request::Read(Density::High, direction) => {
+            at6250::read(page, input, direction == Direction::Backward)
+        }
+        Request::Read(Density::Low, direction) => {
+            at800::read(page, input, direction == Direction::Backward)
+        }
     }
 }
 
 // What is made of standard input, which a wrong request leaves alone. There is space for one byte more than the longest
 // text, and so for more than any record's data: what is too long is seen, and refused.
-fn answer(rt: &HostRuntime, page: &mut [u8; PAGE], request: Request) -> Text {
-    if let Request::Wrong = request {
+fn answer(rt: &HostRuntime, page: &mut Page, request: Option<Request>) -> Text {
+    let Some(request) = request else {
         return print::usage(page);
-    }
+    };
     let mut input = io::large_buffer();
     match streams::read(&mut rt.stdin(), &mut input) {
-        Ended::After(count) => done(page, request, &input[..count]),
-        Ended::Failed(number) => streams::unread(page, number),
+        Ok(count) => done(page, request, &input[..count]),
+        Err(failure) => streams::unread(page, failure),
     }
 }
 
 fn main(rt: HostRuntime) {
-    let mut page = [0u8; PAGE];
+    let mut page = Page::new();
     let text = answer(&rt, &mut page, arguments::asked(&rt));
-    streams::finish(&rt, text, &mut page);
+    // what could not be written is told by then
+    let _ = streams::finish(&rt, text, &mut page);
 }

@@ -3,7 +3,5 @@
 #![tactic(auto)]
 
 mod copier;
-mod direction;
 
 pub use copier::{Copied, copy_record};
-pub use direction::{copy_backward, copy_forward};

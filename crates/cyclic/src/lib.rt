@@ -8,9 +8,10 @@ ghost use Rattle.std.specs.Prelude.{◌≡◌, ◌<◌};
 ghost use Rattle.cyclic.specs.Constants.{times_x};
 ghost use Rattle.cyclic.specs.Step.{Advanced};
 
-pub use step::{enter, stepped};
+pub use step::enter;
 
-// The check register (CRCR) and the error-pattern register (EPR) of document 003, figure 1.
+// The check register (CRCR) and the error-pattern register (EPR) of document 003, figure 1. That they have nine bits is no
+// ghost field: `entered` would then ask that of each character, and its contract, which document 01's form keeps, does not.
 #[derive(Clone, Copy)]
 pub struct Code800 {
     pub check: u16,
@@ -49,7 +50,7 @@ impl Code800 {
     }
 
     // One step (document 003, figure 1): both registers are shifted, the character is added to the first
-    // and, if its parity is wrong, X^8 to the second.
+    // and, if its parity is wrong, X^8 to the second: `wrong` is 1 then, else 0, the number that `Advanced` multiplies.
     pub fn entered(self, character: u16, wrong: u16) -> Code800
         requires { (self.check < 512) × (self.error < 512) × (wrong < 2) }
         ensures { Advanced self character wrong result }
@@ -61,14 +62,18 @@ impl Code800 {
     }
 }
 
+// The largest polynomial of nine bits that has no X^8, so that the shift makes no X^9 of it.
+const NO_CARRY: u16 = Code800::MOST_CHARACTER / 2;
+
 // X times a polynomial of nine bits, modulo G (document 003, figure 1): G is added where X^9 arises. An `if` does
-// it: a multiplication would lengthen the chain of register steps, each of which waits for the one before.
+// it: a multiplication would lengthen the chain of register steps, each of which waits for the one before. It tests
+// the polynomial, and not what is doubled, for which it would wait too.
 pub fn shift(a: u16) -> u16
     requires { a < 512 }
     ensures { result ≡ times_x a }
 {
     let doubled = a * 2;
-    if doubled <= Code800::MOST_CHARACTER {
+    if a <= NO_CARRY {
         doubled
     } else {
         doubled ^ Code800::GENERATOR

@@ -12,13 +12,3 @@ pub fn enter(registers: &mut Code800, character: u16, wrong: u16)
 {
     *registers = registers.entered(character, wrong);
 }
-
-// The registers go in by value, are lent for the step, and come back: whoever calls it lends nothing.
-pub fn stepped(registers: Code800, character: u16, wrong: u16) -> Code800
-    requires { (registers.check < 512) × (registers.error < 512) × (wrong < 2) }
-    ensures { Advanced registers character wrong result }
-{
-    let mut lent = registers;
-    enter(&mut lent, character, wrong);
-    lent
-}

@@ -3,7 +3,7 @@
 -- bit j stands in track j at place 0 (document 000, equation (23) and "Orthogonal symmetry"). That these are the columns is a law
 -- of the crate group6250.
 -- Assumes nothing.
-use Rattle.std.specs.Prelude.{List, [], ◌∷◌, ℕ}
+use Rattle.std.specs.Prelude.{List, [], ◌∷◌, ℕ, get_or}
 
 abbrev pub part1 : List ℕ
 part1 = 258 ∷ 66048 ∷ 16908288 ∷ 4328521728 ∷ 1108101562368 ∷ 283673999966208 ∷ 72620543991349248 ∷ 144116291899228161 ∷ []
@@ -25,3 +25,7 @@ part6 = 281474976710720 ∷ 72057594037944320 ∷ 1103827566593 ∷ 282579857047
 
 abbrev pub part7 : List ℕ
 part7 = 72057594037928064 ∷ 1103823405057 ∷ 282578791694592 ∷ 72340170673815552 ∷ 72340722577047553 ∷ 72479810814738689 ∷ 108086391073734913 ∷ 9223373136366469377 ∷ []
+
+-- the part of B_(k+1)
+abbrev pub part : ℕ → List ℕ
+part k = get_or (part1 ∷ part2 ∷ part3 ∷ part4 ∷ part5 ∷ part6 ∷ part7 ∷ []) k []

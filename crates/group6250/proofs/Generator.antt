@@ -1,13 +1,13 @@
--- The tables of the generator matrix are the code's: a test of what every bit of an information byte adds to the tracks, and the sum.
+-- The parts of the generator matrix are the code's: a test of what every bit of an information byte adds to the tracks, and the sum.
 -- Assumes nothing.
-use mathlib.Core.Path.{◌≡◌, sym, ap, ap₂, ◌∙◌}
-use mathlib.Core.List.{List, [], ◌∷◌}
+use mathlib.Core.Path.{◌≡◌, refl, sym, ap, ap₂, ◌∙◌}
+use mathlib.Core.List.{List}
 use Prim.Native.Nat.{ℕ, zero, suc, ◌+◌, ◌-◌, ◌*◌, ◌/◌, ◌%◌, ◌^◌, ◌<◌}
+use native.Mathlib.Numerals.{add-one}
 use native.Mathlib.Omega.{arith}
 use lib.ListN.{get_or, take}
 use lib.Seq.{get_or-take}
 use Rattle.indexed.specs.List.{tabulate, tabulate_from}
-use Rattle.indexed.specs.Rule.{value_at}
 use Rattle.indexed.proofs.Tabulate.{tabulate_same}
 use Rattle.indexed.proofs.Test.{equal₂}
 use Rattle.register.specs.Bit.{bit, of_bits}
@@ -21,8 +21,7 @@ use Rattle.register.proofs.Linear.{Linear, linear_agree}
 use Rattle.register.proofs.Matrix.{product_xor}
 use Rattle.register.proofs.Shift.{shifts_xor}
 use Rattle.register.proofs.Sum.{sum_ext, sum_one}
-use Rattle.register.proofs.Flipped.{flipped_back}
-use Rattle.generator.specs.Columns.{part1, part2, part3, part4, part5, part6, part7}
+use Rattle.generator.specs.Columns.{part}
 use Rattle.rectangular.specs.Constants.{feedback}
 use Rattle.rectangular.specs.Correction.{error_at}
 use Rattle.rectangular.specs.Group.{information, check, character, column}
@@ -30,10 +29,6 @@ use Rattle.group6250.specs.Packed.{bytes_of}
 use Rattle.group6250.proofs.Bytes.{bit_byte, byte_lt}
 use Rattle.rectangular.proofs.Symmetry.{column_lt, bit_column}
 use Rattle.rectangular.proofs.Syndrome.{error_here, error_elsewhere, error_lt, error_xor}
-
--- the part of the matrix for B_(i+1)
-part : ℕ → List ℕ
-part i = get_or (part1 ∷ part2 ∷ part3 ∷ part4 ∷ part5 ∷ part6 ∷ part7 ∷ []) i []
 
 -- what B_(i+1) = b adds at place r of track j: to the check byte its power of T, and at its own place itself
 added : ℕ → ℕ → ℕ → ℕ → ℕ
@@ -52,7 +47,7 @@ added_xor (suc r) i j a b ha hb = ap (λ (e : ℕ). error_at r e i) (bit_of_xor 
 
 -- a test of every part and place
 place_adds : (i k : ℕ) → i < 7 → k < 8 → product (part i) (2 ^ k) ≡ of_bits (tabulate 64 (λ n. added (n % 8) i (n / 8) (2 ^ k)))
-unfolding part added bit shift shifts error_at of_bits tabulate tabulate_from
+unfolding added bit shift shifts error_at of_bits tabulate tabulate_from
 place_adds = equal₂ 7 8 (λ i k. product (part i) (2 ^ k)) (λ i k. of_bits (tabulate 64 (λ n. added (n % 8) i (n / 8) (2 ^ k)))) tt
 
 -- so it is of every byte
@@ -92,26 +87,25 @@ module _ (info : List ℕ) (bytes : (k : ℕ) → k < 7 → get_or info k 0 < 25
       tabulate_same 8 _ _ (λ j h. bits_ext 8 _ _ (byte_lt j generated) (column_lt 8 (character 8 feedback info) j)
       (λ r b. bit_byte generated j r b ∙ bit_generated j r h b ∙ sym (bit_column 8 (character 8 feedback info) r j b)))
 
--- the seven look-ups, of bytes in front
-module _ (bytes : List ℕ) (are : (k : ℕ) → get_or bytes k 0 < 256) where
-  front_are : (k : ℕ) → k < 7 → get_or (take 7 bytes) k 0 < 256
-  front_are k h = rw (get_or-take 7 bytes k 0 h) (are k)
+-- what the first k look-ups add, of bytes in front
+unfoldable pub added_by : List ℕ → ℕ → ℕ
+added_by bytes k = xor_sum k (λ i. product (part i) (get_or bytes (6 - i) 0))
 
-  pub seven_add : (r1 r2 r3 r4 r5 r6 r7 : ℕ)
-      → r1 ≡ value_at (product part1) (get_or bytes 6 0 ⊕ 128 ⊕ 128)
-      → r2 ≡ value_at (product part2) (get_or bytes 5 0 ⊕ 128 ⊕ 128)
-      → r3 ≡ value_at (product part3) (get_or bytes 4 0 ⊕ 128 ⊕ 128)
-      → r4 ≡ value_at (product part4) (get_or bytes 3 0 ⊕ 128 ⊕ 128)
-      → r5 ≡ value_at (product part5) (get_or bytes 2 0 ⊕ 128 ⊕ 128)
-      → r6 ≡ value_at (product part6) (get_or bytes 1 0 ⊕ 128 ⊕ 128)
-      → r7 ≡ value_at (product part7) (get_or bytes 0 0 ⊕ 128 ⊕ 128)
-      → bytes_of (r1 ⊕ r2 ⊕ r3 ⊕ r4 ⊕ r5 ⊕ r6 ⊕ r7) ≡ tabulate 8 (column 8 (character 8 feedback (take 7 bytes)))
-  unfolding generated xor_sum part information
-  seven_add r1 r2 r3 r4 r5 r6 r7 e1 e2 e3 e4 e5 e6 e7 =
-      let at : (columns : List ℕ) (k r : ℕ) → k < 7 → r ≡ value_at (product columns) (get_or bytes k 0 ⊕ 128 ⊕ 128) → r ≡ product columns (get_or (take 7 bytes) k 0) =
-      λ columns k r h e. e ∙ flipped_back (product columns) (get_or bytes k 0) ∙ ap (product columns) (sym (get_or-take 7 bytes k 0 h)) in
-      let sum : r1 ⊕ r2 ⊕ r3 ⊕ r4 ⊕ r5 ⊕ r6 ⊕ r7 ≡ generated (take 7 bytes) front_are =
-      ap₂ ◌⊕◌ (ap₂ ◌⊕◌ (ap₂ ◌⊕◌ (ap₂ ◌⊕◌ (ap₂ ◌⊕◌ (ap₂ ◌⊕◌ (at part1 6 r1 (omega arith) e1) (at part2 5 r2 (omega arith) e2))
-      (at part3 4 r3 (omega arith) e3)) (at part4 3 r4 (omega arith) e4)) (at part5 2 r5 (omega arith) e5)) (at part6 1 r6 (omega arith) e6))
-      (at part7 0 r7 (omega arith) e7) in
-      ap bytes_of sum ∙ generated_is (take 7 bytes) front_are
+pub none_added : (bytes : List ℕ) → 0 ≡ added_by bytes 0
+unfolding added_by xor_sum
+none_added bytes = refl
+
+pub one_more : (bytes : List ℕ) (k : ℕ) → added_by bytes k ⊕ product (part k) (get_or bytes (6 - k) 0) ≡ added_by bytes (k + 1)
+unfolding added_by xor_sum
+one_more bytes k = sym (ap (added_by bytes) (add-one k))
+
+pub seven_add : (bytes : List ℕ) → ((k : ℕ) → get_or bytes k 0 < 256)
+    → bytes_of (added_by bytes 7) ≡ tabulate 8 (column 8 (character 8 feedback (take 7 bytes)))
+unfolding added_by generated information
+seven_add bytes are =
+    let front_are : (k : ℕ) → k < 7 → get_or (take 7 bytes) k 0 < 256 = λ k h. rw (get_or-take 7 bytes k 0 h) (are k) in
+    let place : (i : ℕ) → 8 - 1 - suc i ≡ 6 - i = λ i. omega arith in
+    ap bytes_of
+    (sum_ext 7 _ _ (λ i h. ap (product (part i))
+    (sym (get_or-take 7 bytes (6 - i) 0 (omega arith)) ∙ ap (λ (k : ℕ). get_or (take 7 bytes) k 0) (sym (place i)))))
+    ∙ generated_is (take 7 bytes) front_are

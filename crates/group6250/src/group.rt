@@ -5,7 +5,7 @@ ghost use Rattle.rectangular.specs.Constants.{feedback, tracks};
 ghost use Rattle.rectangular.specs.Group as code;
 ghost use Rattle.group6250.specs.Packed.{bytes_of, values_of, parity_byte, placed_at};
 
-use generator::{of_b1, of_b2, of_b3, of_b4, of_b5, of_b6, of_b7};
+use generator::part;
 use rectangular::Code6250;
 
 // The track values of a group: tracks 0 to 7, track j in bits 8j to 8j + 7, and the parity track.
@@ -16,7 +16,8 @@ pub struct Group {
 }
 
 impl Group {
-    // The value of a track.
+    // The value of a track. A track is an index below nine here and in `placed`, as the loops count it: a type of its own would be made anew
+    // for each.
     pub fn value(self, track: usize) -> u8
         requires { track < tracks }
         ensures { result ≡ get_or (values_of self) track 0 }
@@ -42,6 +43,7 @@ pub fn placed(track: usize, value: u8) -> u64
 }
 
 // The exclusive-or of the eight track bytes.
+#[tactic(auto, using(crate::proofs::Packed::folded))]
 pub fn parity(tracks: u64) -> u8
     ensures { result ≡ parity_byte tracks }
 {
@@ -52,18 +54,16 @@ pub fn parity(tracks: u64) -> u8
 }
 
 // The tracks that are written from the seven information bytes in front, the first of which is B7: the sum of
-// what each adds. The tables take a byte with its highest bit changed (crate generator).
+// what each adds.
 fn tracks(bytes: &[u8]) -> u64
     requires { 7 ≤ length bytes.now }
     ensures { bytes_of result ≡ tabulate 8 (code.column 8 (code.character 8 feedback (take 7 bytes.now))) }
 {
-    of_b1(bytes[6] ^ 128)
-        ^ of_b2(bytes[5] ^ 128)
-        ^ of_b3(bytes[4] ^ 128)
-        ^ of_b4(bytes[3] ^ 128)
-        ^ of_b5(bytes[2] ^ 128)
-        ^ of_b6(bytes[1] ^ 128)
-        ^ of_b7(bytes[0] ^ 128)
+    let mut sum = 0;
+    for k in 0..Code6250::BYTES {
+        sum ^= part(k, bytes[Code6250::BYTES - 1 - k]);
+    }
+    sum
 }
 
 // The group that is written from the seven information bytes in front.

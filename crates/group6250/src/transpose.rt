@@ -5,6 +5,7 @@ ghost use Rattle.rectangular.specs.Group.{column};
 ghost use Rattle.group6250.specs.Packed.{byte_at, bytes_of, exchange};
 
 // One step: the bits that the mask marks are exchanged with those a distance above them.
+#[tactic(auto, unfolding(crate::specs::Packed::exchange))]
 fn exchanged(x: u64, distance: usize, mask: u64) -> u64
     requires { distance < 64 }
     ensures { result ≡ exchange distance mask x }

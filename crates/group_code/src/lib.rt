@@ -6,5 +6,5 @@
 mod reading;
 mod writing;
 
-pub use reading::{backward_readings, forward_readings};
+pub use reading::{Readings, readings};
 pub use writing::word;

@@ -1,12 +1,11 @@
-// Words as they are read. A reader lends one of these tables to its loop, so that a word takes one look-up:
-// a constant array is made where it is named, which is once a record.
-ghost use Rattle.std.specs.Prelude.{◌≡◌, false, true};
+// Words as they are read: one look-up a word.
+ghost use Rattle.std.specs.Prelude.{◌≡◌};
 ghost use Rattle.group_code.specs.Word.{readings};
 
 // A number for each word of ten bits.
 pub type Readings = [u16; 1024];
 
-const FORWARD: Readings = [
+static FORWARD: Readings = [
     272, 272, 272, 272, 272, 272, 272, 272, 272, 265, 266, 267, 272, 269, 270, 271, 272, 272, 258,
     259, 272, 261, 262, 263, 272, 256, 264, 257, 272, 260, 268, 272, 272, 272, 272, 272, 272, 272,
     272, 272, 272, 265, 266, 267, 272, 269, 270, 271, 272, 272, 258, 259, 272, 261, 262, 263, 272,
@@ -62,14 +61,7 @@ const FORWARD: Readings = [
     272, 258, 259, 272, 261, 262, 263, 272, 256, 264, 257, 272, 260, 268, 272,
 ];
 
-// How each word of ten bits reads forward: its value, and in bit 8 whether it is illegal.
-pub fn forward_readings() -> Readings
-    ensures { result ≡ readings false }
-{
-    FORWARD
-}
-
-const BACKWARD: Readings = [
+static BACKWARD: Readings = [
     272, 272, 272, 272, 272, 272, 272, 272, 272, 304, 432, 400, 272, 368, 496, 464, 272, 272, 416,
     272, 272, 352, 480, 336, 272, 320, 448, 288, 272, 384, 256, 272, 272, 272, 272, 272, 272, 272,
     272, 272, 272, 304, 432, 400, 272, 368, 496, 464, 272, 272, 416, 272, 272, 352, 480, 336, 272,
@@ -126,9 +118,10 @@ const BACKWARD: Readings = [
     272,
 ];
 
-// How each reads backward, with its bits the other way round.
-pub fn backward_readings() -> Readings
-    ensures { result ≡ readings true }
+// How each word of ten bits reads, forward or backward: its value, and in bit 8 whether it is illegal.
+// One number holds both, so that the bitwise or of nine readings tells whether a word is illegal.
+pub fn readings(backward: bool) -> &'static Readings
+    ensures { result.now ≡ readings backward }
 {
-    BACKWARD
+    if backward { &BACKWARD } else { &FORWARD }
 }

@@ -7,27 +7,24 @@ ghost use Rattle.head_order.specs.Told.{told_stored, told_map};
 ghost use Rattle.terms.specs.Call as Call;
 ghost use Rattle.terms.specs.Terms.{Terms};
 
-use crate::{MovedMap, Stored, ways};
-use arrangement::card;
+use crate::ways;
+use answer::Refusal;
+use arrangement::card::GoodCard;
 use track_order::Toward;
 
 // Moves nine words.
-pub fn words(toward: Toward, source: &[u16], target: &mut [u16]) -> Stored
+pub fn words(toward: Toward, source: &[u16], target: &mut [u16]) -> Result<(), Refusal>
     ensures answer { told_stored result [] ≡ words_answer source.now (length target.old) }
     ensures output { target.new ≡ output_after (told_stored result []) (moved_words toward standard_card source.now) target.old }
     ensures terms { Terms (Call.standard_words toward source.now) (told_stored result []) target.old target.new }
 {
-    let card = card::standard();
-    let way = card::way(toward, &card);
-    ways::words(&way, source, target)
+    ways::words(&GoodCard::standard().way(toward), source, target)
 }
 
 // Moves a pointer map.
-pub fn map(toward: Toward, map: u16) -> MovedMap
+pub fn map(toward: Toward, map: u16) -> Result<u16, Refusal>
     ensures answer { told_map result ≡ map_answer (moved_map toward standard_card) map }
     ensures terms { Terms (Call.standard_map toward map) (told_map result) [] [] }
 {
-    let card = card::standard();
-    let way = card::way(toward, &card);
-    ways::map(&way, map)
+    ways::map(&GoodCard::standard().way(toward), map)
 }

@@ -1,55 +1,50 @@
 // Nine words and pointer maps moved by a way, with what is refused. One routine serves both directions, each with its own way.
-ghost use Rattle.std.specs.Prelude.{[], ◌≡◌, length};
-ghost use Rattle.answer.specs.Answer.{output_after};
-ghost use Rattle.track_order.specs.Order.{Permutation, arranged, arranged_map};
+ghost use Rattle.std.specs.Prelude.{[], ◌≡◌, IfOk, length};
+ghost use Rattle.answer.specs.Answer.{told, output_after};
+ghost use Rattle.track_order.specs.Order.{arranged, arranged_map};
 ghost use Rattle.track_order.specs.Moved.{words_answer, map_answer};
 ghost use Rattle.head_order.specs.Told.{told_stored, told_map};
 
-use crate::{MovedMap, Stored};
 use answer::{Reason, Refusal};
-use arrangement::Card;
+use arrangement::Way;
 use rectangular::Code6250;
 
 // Moves nine words.
-pub fn words(way: &Card, source: &[u16], target: &mut [u16]) -> Stored
-    requires { Permutation way.now }
+pub fn words(way: &Way, source: &[u16], target: &mut [u16]) -> Result<(), Refusal>
     ensures answer { told_stored result [] ≡ words_answer source.now (length target.old) }
     ensures output { target.new ≡ output_after (told_stored result []) (arranged way.now source.now) target.old }
 {
-    let answer = checked(source, target.len());
-    if let Stored::Delivered = answer {
-        arrangement::arrange(way, source, target);
-    }
-    answer
+    let words = checked(source, target.len())?;
+    way.arrange(words, target);
+    Ok(())
 }
 
 // Moves a pointer map.
-pub fn map(way: &Card, map: u16) -> MovedMap
-    requires { Permutation way.now }
+pub fn map(way: &Way, map: u16) -> Result<u16, Refusal>
     ensures { told_map result ≡ map_answer (arranged_map way.now) map }
 {
     if map > Code6250::MOST_MAP {
-        return MovedMap::Refused(Refusal {
-            reason: Reason::StrayBits,
-            place: 0,
-        });
+        return Err(Reason::StrayBits.into());
     }
-    MovedMap::Delivered(arrangement::arrange_bits(way, map))
+    Ok(way.arrange_bits(map))
 }
 
-// Refusals 1, 2 and 3, in this order, or the delivery.
-fn checked(source: &[u16], space: usize) -> Stored
-    ensures { told_stored result [] ≡ words_answer source.now space }
+// Refusals 1, 2 and 3, in this order, or the nine words.
+fn checked(source: &[u16], space: usize) -> Result<&[u16; Code6250::TRACKS], Refusal>
+    ensures answer { told (λ words. []) result ≡ words_answer source.now space }
+    ensures words { IfOk result (λ words. words.now ≡ source.now) }
 {
-    if source.len() != Code6250::TRACKS {
-        return Stored::refused(Reason::Length, 0);
-    }
+    let Some(words) = source.as_array() else {
+        return Err(Reason::Length.into());
+    };
     if space < Code6250::TRACKS {
-        return Stored::refused(Reason::Space, 0);
+        return Err(Reason::Space.into());
     }
-    let place = slices::first_above(source, Code6250::MOST_WORD);
-    if place < Code6250::TRACKS {
-        return Stored::refused(Reason::StrayBits, place);
+    match slices::first_above(source, Code6250::MOST_WORD) {
+        Some(place) => Err(Refusal {
+            reason: Reason::StrayBits,
+            place,
+        }),
+        None => Ok(words),
     }
-    Stored::Delivered
 }

@@ -8,6 +8,8 @@ use native.Mathlib.Nat.{not-suc-le-zero, le_of_suc-le-suc, zero-lt-suc, suc-ne-z
 use native.Mathlib.Decide.{dec_lt}
 use native.Mathlib.Omega.{arith}
 use lib.ListN.{length, get_or}
+use Rattle.std.specs.List.{position_or_len}
+use Rattle.std.proofs.lemmas.List.Recursion.{is_position_or_len}
 use Rattle.indexed.specs.List.{first_where}
 
 -- none of the first k elements passes
@@ -71,3 +73,8 @@ first_found p l k h passes = by (dec_lt (first_where p l) (length l))
     by : Dec (first_where p l < length l) → first_where p l < length l
     by (yes b) = b
     by (no b) = absurd (true≢false (sym passes ∙ first_before p l k (omega arith)))
+
+-- it is where std finds it
+pub first_where-position : (p : ℕ → Bool) (l : List ℕ) → first_where p l ≡ position_or_len p l
+unfolding first_where
+first_where-position p = is_position_or_len (first_where p) p refl (λ x xs. ap (cond (p x) zero) (omega arith))

@@ -11,6 +11,6 @@ pub mod Blocks
 pub mod Joined
 pub mod Part
 pub mod Map
-pub mod Rule
 pub mod Stores
 pub mod Only
+pub mod Found

@@ -1,4 +1,3 @@
 pub mod List
 pub mod Test
 pub mod Differ
-pub mod Rule

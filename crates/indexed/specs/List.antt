@@ -1,6 +1,6 @@
 -- Lists by index.
 -- Assumes nothing.
-use Rattle.std.specs.Prelude.{ℕ, zero, suc, ◌+◌, Bool, cond, List, [], ◌∷◌, ◌++◌, eqb}
+use Rattle.std.specs.Prelude.{ℕ, zero, suc, ◌+◌, Bool, cond, List, [], ◌∷◌, ◌++◌, Option, None, Some, eqb, ltb}
 
 -- f i, f (i + 1), .., n of them
 unfoldable pub tabulate_from : {A : Type 0} → ℕ → ℕ → (ℕ → A) → List A
@@ -20,6 +20,10 @@ blocks (suc n) f = blocks n f ++ f n
 unfoldable pub first_where : (ℕ → Bool) → List ℕ → ℕ
 first_where p [] = zero
 first_where p (x ∷ xs) = cond (p x) zero (suc (first_where p xs))
+
+-- an index below n, or none where it is not below: what is found among n elements, if it is found
+abbrev pub index_in : ℕ → ℕ → Option ℕ
+index_in n i = cond (ltb i n) (Some i) None
 
 -- 0, 1, .., n - 1
 unfoldable pub below : ℕ → List ℕ

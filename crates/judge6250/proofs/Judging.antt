@@ -3,6 +3,7 @@
 use mathlib.Core.Path.{◌≡◌, refl, sym, ap, ap₂, ◌∙◌}
 use mathlib.Core.Bool.{Bool, true, false, cond}
 use mathlib.Core.List.{List, [], ◌∷◌}
+use Rattle.std.specs.Prelude.{Option, Some, None}
 use Prim.Native.Nat.{ℕ, ◌-◌, ◌<◌, ◌≤◌}
 use native.Mathlib.Nat.{suc-ne-zero, suc_inj}
 use native.Mathlib.Omega.{arith}
@@ -11,7 +12,7 @@ use lib.Bits.{bit_and}
 use lib.Count.{ones, ones_in, count_trailing_zeros}
 use lib.Dec.{eqb, ltb}
 use lib.ListN.{length, get_or}
-use Rattle.indexed.specs.List.{tabulate, tabulate_from, first_where, below, keep}
+use Rattle.indexed.specs.List.{tabulate, tabulate_from, first_where, below, keep, index_in}
 use Rattle.indexed.proofs.Below.{length_below, get_or_below}
 use Rattle.indexed.proofs.Test.{equal}
 use Rattle.register.specs.Bit.{bit}
@@ -19,6 +20,7 @@ use Rattle.rectangular.specs.Constants.{feedback, exponent}
 use Rattle.rectangular.specs.Correction.{pointed_tracks}
 use Rattle.rectangular.specs.Syndrome.{weighed, Errors, errors_in, too_many, unaccounted, first_accounting, one_error, errors_of}
 use Rattle.rectangular.proofs.Errors.{errors_too_many}
+use Rattle.judge6250.specs.Told.{told_located}
 
 -- ---- one error, by the index at which it was searched for
 
@@ -45,15 +47,21 @@ module _ (s1 s2 : ℕ) (tracks : List ℕ) (t : ℕ) (found : first_accounting 8
       sym (ap by_index found ∙ ap (λ (b : Bool). cond b (errors_in (get_or tracks t 0) s1 8 0) unaccounted) (le-ltb t (length tracks) h))
 
 -- one error anywhere, by the track that was searched for
-pub one_anywhere : (s1 s2 k : ℕ) → k ≡ first_accounting 8 feedback s1 s2 (below 9)
-    → cond (ltb k 9) (errors_in k s1 8 0) unaccounted ≡ one_error 8 feedback s1 s2 (below 9)
-one_anywhere s1 s2 k found = by (ltb k 9) refl
+abbrev anywhere : ℕ → ℕ → ℕ
+anywhere s1 s2 = first_accounting 8 feedback s1 s2 (below 9)
+
+pub one_anywhere : (s1 s2 : ℕ) (t : Option ℕ) → t ≡ index_in 9 (first_accounting 8 feedback s1 s2 (below 9))
+    → told_located t s1 ≡ one_error 8 feedback s1 s2 (below 9)
+one_anywhere s1 s2 t found =
+    ap (λ (o : Option ℕ). told_located o s1) found ∙ by (ltb (anywhere s1 s2) 9) refl
   where
-    by : (b : Bool) → ltb k 9 ≡ b → cond b (errors_in k s1 8 0) unaccounted ≡ one_error 8 feedback s1 s2 (below 9)
+    by : (b : Bool) → ltb (anywhere s1 s2) 9 ≡ b → told_located (cond b (Some (anywhere s1 s2)) None) s1 ≡ one_error 8 feedback s1 s2 (below 9)
     by true e =
-        let h = ltb-true k 9 e in
-        one_is s1 s2 (below 9) k (sym found) (omega (arith, length_below 9)) k (get_or_below 9 k 0 h) _ refl
-    by false e = let h = ltb-false k 9 e in one_none s1 s2 (below 9) k (sym found) (omega (arith, length_below 9))
+        let h = ltb-true (anywhere s1 s2) 9 e in
+        one_is s1 s2 (below 9) (anywhere s1 s2) refl (omega (arith, length_below 9)) (anywhere s1 s2) (get_or_below 9 (anywhere s1 s2) 0 h) _ refl
+    by false e =
+        let h = ltb-false (anywhere s1 s2) 9 e in
+        one_none s1 s2 (below 9) (anywhere s1 s2) refl (omega (arith, length_below 9))
 
 -- ---- the map of pointed tracks: tests of every map
 

@@ -9,23 +9,16 @@ ghost use Rattle.rectangular.specs.Relied.{relied_on};
 ghost use Rattle.group6250.specs.Packed.{values_of};
 ghost use Rattle.judge6250.specs.Told.{told_judged, told_changed, changed_by, mark_at};
 
-use crate::errors::{ErrorPair, Errors, errors_of};
+use crate::errors::{ErrorPair, Unfit, errors_of};
 use group6250::group::{Group, parity, placed};
 use products::check_syndrome;
 use rectangular::Code6250;
 
 // The group that fits, and the tracks in which it differs from what was read.
-#[derive(Drop)]
+#[derive(Clone, Copy)]
 pub struct Correction {
     pub group: Group,
     pub changed: u16,
-}
-
-#[derive(Drop)]
-pub enum Judged {
-    Corrected(Correction),
-    ManyPointed,
-    NoGroup,
 }
 
 // The bit of a track that an error changes.
@@ -63,16 +56,11 @@ fn corrected(group: Group, pair: ErrorPair) -> Correction
 fn is_clean(s1: u8, s2: u8, pointers: u16) -> bool
     ensures { result ≡ (eqb s1 0 && eqb s2 0 && eqb pointers 0) }
 {
-    if s1 == 0 {
-        if s2 == 0 {
-            return pointers == 0;
-        }
-    }
-    false
+    s1 == 0 && s2 == 0 && pointers == 0
 }
 
 // Judges a group by the tracks that are pointed, bit i of the map for track i, and whether all words are legal.
-pub fn judge(group: Group, pointers: u16, legal: bool) -> Judged
+pub fn judge(group: Group, pointers: u16, legal: bool) -> Result<Correction, Unfit>
     requires { pointers < 2 ^ tracks }
     ensures told { told_judged result ≡ judged 8 feedback exponent (λ k. get_or (values_of group) k 0) (pointed_tracks tracks (relied_on legal pointers)) }
     ensures changed { told_changed result ≡ changed_by (values_of group) (told_judged result) }
@@ -80,11 +68,8 @@ pub fn judge(group: Group, pointers: u16, legal: bool) -> Judged
     let s1 = parity(group.tracks) ^ group.parity;
     let s2 = check_syndrome(group.tracks);
     if is_clean(s1, s2, pointers) {
-        return Judged::Corrected(Correction { group, changed: 0 });
+        return Ok(Correction { group, changed: 0 });
     }
-    match errors_of(s1, s2, pointers, legal) {
-        Errors::In(pair) => Judged::Corrected(corrected(group, pair)),
-        Errors::TooMany => Judged::ManyPointed,
-        Errors::Unaccounted => Judged::NoGroup,
-    }
+    let pair = errors_of(s1, s2, pointers, legal)?;
+    Ok(corrected(group, pair))
 }

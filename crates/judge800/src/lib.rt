@@ -1,4 +1,4 @@
-// Which tracks can account for the sums of a reading at 800 bits per inch (document 003): the error pattern from its register,
+// Which track accounts for the sums of a reading at 800 bits per inch (document 003): the error pattern from its register,
 // and the nine tracks tried on the sums. Nothing here knows the characters.
 
 #![tactic(auto)]
@@ -7,4 +7,4 @@ mod pattern;
 mod track;
 
 pub use pattern::unshifted;
-pub use track::{Found, agree, located};
+pub use track::{Unlocated, agree, located};

@@ -14,10 +14,8 @@ pub fn unshifted(error: u16) -> u16
     ensures { result ≡ shifts 9 feedback (exponent - ahead) error }
 {
     let mut pattern = error;
-    let mut k: usize = 0;
-    while k < SHIFTS_BACK {
+    for _ in 0..SHIFTS_BACK {
         pattern = shift(pattern);
-        k += 1;
     }
     pattern
 }

@@ -13,8 +13,7 @@ use Rattle.record6250.specs.Record.{written_record, groups_for}
 use Rattle.record6250.specs.Written.{write_answer}
 use Rattle.record6250.proofs.Answer.{written_passed}
 use Rattle.record6250.proofs.Record.{length_record}
-use Rattle.answer.specs.declared.Written.{Written}
-use Rattle.answer.specs.declared.Written.TheVariants.{Delivered, Refused}
+use Rattle.std.specs.Prelude.{Option, Result, Ok, Err}
 use Rattle.streams.specs.Message.{unread_text}
 use Rattle.streams.specs.Ended.{Prints, Tells}
 use Rattle.streams.specs.declared.Text.{Text}
@@ -22,8 +21,8 @@ use Rattle.streams.specs.declared.Text.TheVariants.{Output, Message}
 use Rattle.listing.specs.Listing.{record_text, answer_text, listing_text, most_words, Listed}
 use Rattle.listing.proofs.Lines.{record_same}
 
-module _ (bytes : List ℕ) (r : Written) (told : told_written r ≡ write_answer (length bytes) most_words) where
-  module _ (groups : ℕ) (e : r ≡ Delivered groups) where
+module _ (bytes : List ℕ) (r : Result ℕ Refusal) (told : told_written r ≡ write_answer (length bytes) most_words) where
+  module _ (groups : ℕ) (e : r ≡ Ok groups) where
     answered : write_answer (length bytes) most_words ≡ delivered (groups ∷ [])
     answered = sym told ∙ ap told_written e
 
@@ -41,14 +40,14 @@ module _ (bytes : List ℕ) (r : Written) (told : told_written r ≡ write_answe
         ap (λ (l : List ℕ). get_or l k 0) words ∙ get_or-append (written_record bytes) _ 0 k (omega (arith, many, length_record bytes)))
         ∙ sym (ap (answer_text (written_record bytes)) answered)
 
-  pub refused_text : (refusal : Refusal) → r ≡ Refused refusal → refusal_text (number_of refusal.reason) refusal.place ≡ listing_text bytes
+  pub refused_text : (refusal : Refusal) → r ≡ Err refusal → refusal_text (number_of refusal.reason) refusal.place ≡ listing_text bytes
   refused_text refusal e = ap (answer_text (written_record bytes)) (sym (ap told_written e) ∙ told)
 
-module _ (page page' : List ℕ) where
-  pub listed_text : (bytes : List ℕ) (r : Text) → Prints (listing_text bytes) page page' r → Listed page page' r
-  listed_text bytes (Output held) h = (bytes, h)
-  listed_text bytes (Message held) h = absurd h
+module _ (page : Option (List ℕ)) where
+  pub listed_text : (bytes : List ℕ) (r : Text) → Prints (listing_text bytes) page r → Listed page r
+  listed_text bytes Output h = (bytes, h)
+  listed_text bytes Message h = absurd h
 
-  pub listed_message : (number : ℕ) (r : Text) → Tells (unread_text number) page page' r → Listed page page' r
-  listed_message number (Output held) h = absurd h
-  listed_message number (Message held) h = (number, h)
+  pub listed_message : (number : ℕ) (r : Text) → Tells (unread_text number) page r → Listed page r
+  listed_message number Output h = absurd h
+  listed_message number Message h = (number, h)

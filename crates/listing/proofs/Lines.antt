@@ -1,44 +1,31 @@
 -- The text of a listing grows word by word and group by group, and depends on the words that it lists only.
 -- Assumes nothing.
-use Prim.Native.Nat.{ℕ, ◌+◌, ◌*◌, ◌<◌}
-use mathlib.Core.Path.{◌≡◌, ap, subst}
+use Prim.Native.Nat.{ℕ, ◌+◌, ◌-◌, ◌*◌, ◌<◌}
+use mathlib.Core.Path.{◌≡◌, sym, ap, ◌∙◌}
 use mathlib.Core.List.{List, ◌++◌}
+use native.Mathlib.Nat.{zero-add}
 use native.Mathlib.Numerals.{add-one}
 use native.Mathlib.Omega.{arith}
-use lib.ListN.{get_or}
+use lib.ListN.{length, get_or, take, drop, length-drop}
+use lib.Seq.{take_all}
+use Rattle.std.proofs.Common.{get_or-take, get_or-drop}
+use Rattle.std.specs.Prelude.{Option}
 use Rattle.indexed.specs.List.{blocks}
 use Rattle.indexed.proofs.Blocks.{blocks_same}
 use Rattle.rectangular.specs.Constants.{numbers_per_group}
 use Rattle.page.specs.Ascii.{ascii}
 use Rattle.page.specs.Page.{Printed}
-use Rattle.page.proofs.Printed.{printed_none, printed_both}
-use Rattle.listing.specs.Listing.{word_text, words_text, group_text, record_text}
+use Rattle.page.proofs.Printed.{after_none, printed_both}
+use Rattle.listing.specs.Listing.{word_text, group_text, record_text}
 
-blocks_suc : (n : ℕ) (f : ℕ → List ℕ) → blocks (n + 1) f ≡ blocks n f ++ f n
+-- no block of text, and one more
+pub blocks_none : (f : ℕ → List ℕ) (page : Option (List ℕ)) → Printed (blocks 0 f) page page
 unfolding blocks
-blocks_suc n f = ap (λ (m : ℕ). blocks m f) (add-one n)
+blocks_none f page = sym (after_none page)
 
-module _ (words : List ℕ) (at : ℕ) where
-  -- no word, and one more
-  pub words_none : (page : List ℕ) (held : ℕ) → Printed (words_text words at 0) page held page held
-  unfolding blocks
-  words_none page held = printed_none page held
-
-  pub words_more : (n : ℕ) {p q r : List ℕ} {h i j : ℕ} → Printed (words_text words at n) p h q i → Printed (word_text n (get_or words (at + n) 0)) q i r j
-      → Printed (words_text words at (n + 1)) p h r j
-  words_more n t u = rw (blocks_suc n (λ m. word_text m (get_or words (at + m) 0))) (printed_both t u)
-
-  -- the line, with its end
-  pub words_all : (n : ℕ) {p q r : List ℕ} {h i j : ℕ} → n ≡ numbers_per_group → Printed (words_text words at n) p h q i → Printed (ascii "\n") q i r j → Printed (group_text words at) p h r j
-  words_all n {p} {q} {r} {h} {i} {j} e t u = printed_both (subst (λ (m : ℕ). Printed (words_text words at m) p h q i) e t) u
-
--- no group, and one more
-pub groups_none : (words page : List ℕ) (held : ℕ) → Printed (record_text words 0) page held page held
+pub blocks_more : (n : ℕ) (f : ℕ → List ℕ) (p : Option (List ℕ)) {q r : Option (List ℕ)} → Printed (blocks n f) p q → Printed (f n) q r → Printed (blocks (n + 1) f) p r
 unfolding blocks
-groups_none words page held = printed_none page held
-
-pub groups_more : (words : List ℕ) (g : ℕ) {p q r : List ℕ} {i j : ℕ} → Printed (record_text words g) p 0 q i → Printed (group_text words (numbers_per_group * g)) q i r j → Printed (record_text words (g + 1)) p 0 r j
-groups_more words g t u = rw (blocks_suc g (λ n. group_text words (numbers_per_group * n))) (printed_both t u)
+blocks_more n f p s t = rw (add-one n) (printed_both (blocks n f) (f n) p s t)
 
 -- the text of a record is that of its words
 pub record_same : (groups : ℕ) (words others : List ℕ) → ((k : ℕ) → k < numbers_per_group * groups → get_or words k 0 ≡ get_or others k 0) → record_text words groups ≡ record_text others groups
@@ -46,3 +33,15 @@ record_same groups words others same =
     blocks_same groups (λ g. group_text words (numbers_per_group * g)) (λ g. group_text others (numbers_per_group * g)) (λ g b.
     ap (λ (t : List ℕ). t ++ ascii "\n") (blocks_same numbers_per_group (λ j. word_text j (get_or words (numbers_per_group * g + j) 0)) (λ j. word_text j (get_or others (numbers_per_group * g + j) 0))
     (λ j c. ap (word_text j) (same (numbers_per_group * g + j) (omega arith)))))
+
+-- the line of the group in front of what stands from an index on is that of the group at the index
+pub group_at : (words : List ℕ) (at : ℕ) → group_text (take (length words - at) (drop at words)) 0 ≡ group_text words at
+group_at words at =
+    ap (λ l. group_text l 0) (take_all (length words - at) (drop at words) (omega (arith, length-drop at words)))
+    ∙ ap (λ (t : List ℕ). t ++ ascii "\n")
+    (blocks_same numbers_per_group (λ j. word_text j (get_or (drop at words) (0 + j) 0)) (λ j. word_text j (get_or words (at + j) 0)) (λ j b.
+    ap (word_text j) (get_or-drop at words (0 + j) 0 ∙ ap (λ k. get_or words (at + k) 0) (zero-add j))))
+
+-- and so is a word of those in front
+pub front_word : (words : List ℕ) (n j : ℕ) → j < n → get_or (take n words) j 0 ≡ get_or words (0 + j) 0
+front_word words n j h = get_or-take n words j 0 h ∙ ap (λ k. get_or words k 0) (sym (zero-add j))

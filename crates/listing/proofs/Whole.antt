@@ -41,25 +41,25 @@ whole_listing bytes None left' e end = tt
 whole_listing bytes (Some all) None e end = absurd e
 whole_listing bytes (Some all) (Some rest) e end = all_listed bytes rest end ∙ ap listing_text (sym e)
 
-module _ (page page' : List ℕ) (left : Option (List ℕ)) where
-  pub listed_whole : (bytes : List ℕ) (r : Text) → Prints (listing_text bytes) page page' r → IfSome left (λ all. listing_text bytes ≡ listing_text all) → IfSome left (λ all. ListedOf all page page' r)
+module _ (page : Option (List ℕ)) (left : Option (List ℕ)) where
+  pub listed_whole : (bytes : List ℕ) (r : Text) → Prints (listing_text bytes) page r → IfSome left (λ all. listing_text bytes ≡ listing_text all) → IfSome left (λ all. ListedOf all page r)
   listed_whole bytes r h same = of left same
     where
-      put : (all : List ℕ) (r : Text) → listing_text bytes ≡ listing_text all → Prints (listing_text bytes) page page' r → ListedOf all page page' r
-      put all (Output held) e h = rw (sym e) h
-      put all (Message held) e h = absurd h
+      put : (all : List ℕ) (r : Text) → listing_text bytes ≡ listing_text all → Prints (listing_text bytes) page r → ListedOf all page r
+      put all Output e h = rw (sym e) h
+      put all Message e h = absurd h
 
-      of : (left : Option (List ℕ)) → IfSome left (λ all. listing_text bytes ≡ listing_text all) → IfSome left (λ all. ListedOf all page page' r)
+      of : (left : Option (List ℕ)) → IfSome left (λ all. listing_text bytes ≡ listing_text all) → IfSome left (λ all. ListedOf all page r)
       of None e = tt
       of (Some all) e = put all r e h
 
-  pub told_whole : (number : ℕ) (r : Text) → Tells (unread_text number) page page' r → IfSome left (λ all. ListedOf all page page' r)
+  pub told_whole : (number : ℕ) (r : Text) → Tells (unread_text number) page r → IfSome left (λ all. ListedOf all page r)
   told_whole number r h = of left
     where
-      put : (all : List ℕ) (r : Text) → Tells (unread_text number) page page' r → ListedOf all page page' r
-      put all (Output held) h = absurd h
-      put all (Message held) h = (number, h)
+      put : (all : List ℕ) (r : Text) → Tells (unread_text number) page r → ListedOf all page r
+      put all Output h = absurd h
+      put all Message h = (number, h)
 
-      of : (left : Option (List ℕ)) → IfSome left (λ all. ListedOf all page page' r)
+      of : (left : Option (List ℕ)) → IfSome left (λ all. ListedOf all page r)
       of None = tt
       of (Some all) = put all r h

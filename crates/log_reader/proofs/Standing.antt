@@ -1,13 +1,16 @@
 -- How many of the groups' bits stand, byte by byte.
 -- Assumes nothing.
-use Prim.Native.Nat.{ℕ, ◌+◌, ◌*◌, ◌/◌, ◌%◌, ◌^◌, ◌<◌, ◌≤◌}
-use mathlib.Core.Path.{◌≡◌, sym, ap, ◌∙◌}
+use Prim.Native.Nat.{ℕ, zero, suc, ◌+◌, ◌*◌, ◌/◌, ◌%◌, ◌^◌, ◌<◌, ◌≤◌}
+use mathlib.Core.Path.{◌≡◌, refl, sym, ap, ◌∙◌}
 use mathlib.Core.List.{List}
 use native.Mathlib.Nat.{mod-lt, mod-eq_of_lt}
+use native.Mathlib.Numerals.{add-one}
 use native.Mathlib.Omega.{arith}
 use lib.Count.{ones}
-use lib.ListN.{get_or}
+use lib.ListN.{length, get_or, take}
 use lib.Pow.{pow_pos}
+use Rattle.std.specs.Prelude.{sum_by}
+use Rattle.std.proofs.lemmas.List.Sums.{sum_by_more}
 use Rattle.indexed.specs.List.{total}
 use Rattle.indexed.proofs.Tabulate.{tabulate_same}
 use Rattle.indexed.proofs.Total.{total_same, total_split}
@@ -44,6 +47,17 @@ module _ (log : List ℕ) where
       ap (standing_bits log) next
       ∙ standing_part b 8 (omega arith)
       ∙ ap (λ (x : ℕ). standing_bits log (8 * b) + ones x) (mod-eq_of_lt h)
+
+  -- those of the first bytes
+  pub standing_bytes : ((k : ℕ) → get_or log k 0 < 2 ^ 8) → (b : ℕ) → b ≤ length log → sum_by ones (take b log) ≡ standing_bits log (8 * b)
+  unfolding standing_bits total
+  standing_bytes fits zero h = refl
+  standing_bytes fits (suc b) h =
+      ap (λ (n : ℕ). sum_by ones (take n log)) (sym (add-one b))
+      ∙ sum_by_more ones log b 0 (omega arith)
+      ∙ ap (λ (n : ℕ). n + ones (get_or log b 0)) (standing_bytes fits b (omega arith))
+      ∙ sym (standing_byte b (fits b))
+      ∙ ap (λ (n : ℕ). standing_bits log (8 * n)) (add-one b)
 
   -- the whole bytes, and the groups of the last one
   pub standing_last : (groups : ℕ) → standing_bits log groups ≡ standing_bits log (8 * (groups / 8)) + ones (get_or log (groups / 8) 0 % 2 ^ (groups % 8))

@@ -7,9 +7,10 @@ use mathlib.Core.List.{List}
 use native.Mathlib.Omega.{arith}
 use borrow.Author.Tests.{le-leb, lt-leb, lt-ltb, le-ltb, eq-eqb, ne_eqb}
 use lib.Dec.{eqb, leb, ltb}
-use lib.ListN.{length}
+use lib.ListN.{length, replicate, length-replicate, get_or-replicate}
+use lib.Seq.{ext_get_or}
 use Rattle.indexed.specs.List.{tabulate, total}
-use Rattle.indexed.proofs.Tabulate.{tabulate_same}
+use Rattle.indexed.proofs.Tabulate.{length_tabulate, get_d_tabulate, tabulate_same}
 use Rattle.indexed.proofs.Test.{all_true, all_false}
 use Rattle.indexed.proofs.Total.{none_of_total}
 use Rattle.rectangular.specs.Constants.{most_map, most_groups}
@@ -61,15 +62,6 @@ module _ (groups : ℕ) (log : List ℕ) where
   abbrev pub suited : ℕ → Bool
   suited k = ltb 0 (stored_map groups log k) && leb (stored_map groups log k) most_map
 
-  pub map_none : (k : ℕ) → stored_map groups log k ≡ 0 → suited k ≡ false
-  map_none k e = rw (le-ltb 0 (stored_map groups log k) (omega arith)) refl
-
-  pub map_stray : (k : ℕ) → most_map < stored_map groups log k → suited k ≡ false
-  map_stray k h = rw (lt-ltb 0 (stored_map groups log k) (omega arith), lt-leb (stored_map groups log k) most_map h) refl
-
-  pub map_right : (k : ℕ) → (stored_map groups log k ≡ 0 → ⊥) → stored_map groups log k ≤ most_map → suited k ≡ true
-  map_right k some h = rw (lt-ltb 0 (stored_map groups log k) (omega (arith, some)), le-leb (stored_map groups log k) most_map h) refl
-
   pub one_unsuited : (k : ℕ) → k < standing_bits log groups → suited k ≡ false → false ≡ maps_suit groups log
   unfolding maps_suit
   one_unsuited k h e = sym (all_false (standing_bits log groups) suited k h e)
@@ -77,3 +69,10 @@ module _ (groups : ℕ) (log : List ℕ) where
   pub all_suited : ((k : ℕ) → k < standing_bits log groups → suited k ≡ true) → true ≡ maps_suit groups log
   unfolding maps_suit
   all_suited h = sym (all_true (standing_bits log groups) suited h)
+
+-- zeros stored
+pub zeros : (n : ℕ) → replicate {A = ℕ} n 0 ≡ tabulate n (λ g. 0)
+zeros n =
+    ext_get_or 0 _ _ (length-replicate n 0 ∙ sym (length_tabulate n (λ g. 0)))
+    (λ k b. let within : k < n = omega (arith, b, length-replicate {A = ℕ} n 0) in
+    get_or-replicate n k 0 0 within ∙ sym (get_d_tabulate n (λ g. 0) k 0 within))

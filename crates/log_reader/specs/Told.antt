@@ -1,11 +1,11 @@
 -- What reading a log back tells.
 -- Assumes nothing.
-use Rattle.answer.specs.Answer.{Answer, delivered, told_refusal}
+use Rattle.std.specs.Prelude.{Result}
+use Rattle.answer.specs.Answer.{Answer, told}
+use Rattle.answer.specs.declared.Refusal.{Refusal}
 use Rattle.track_counts.specs.Counts.{counts_told}
-use Rattle.log_reader.specs.declared.ReadBack.{ReadBack}
-use Rattle.log_reader.specs.declared.ReadBack.TheVariants.{Delivered, Refused}
+use Rattle.track_counts.specs.declared.Counts.{Counts}
 
 -- a delivery tells the marks of each track
-abbrev pub told_back : ReadBack → Answer
-told_back (Delivered marks) = delivered (counts_told marks)
-told_back (Refused r) = told_refusal r
+abbrev pub told_back : Result Counts Refusal → Answer
+told_back = told counts_told

@@ -3,16 +3,7 @@
 #![tactic(auto)]
 
 mod bits;
+mod log;
 mod reader;
-mod stored;
 
-use answer::Refusal;
 pub use reader::read_log;
-use track_counts::Counts;
-
-// What reading a log back answers: the marks of each track, or the refusal.
-#[derive(Drop)]
-pub enum ReadBack {
-    Delivered(Counts),
-    Refused(Refusal),
-}

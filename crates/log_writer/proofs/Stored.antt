@@ -1,15 +1,19 @@
 -- A log as it is stored: each byte of its bit map from its bits, the highest first, and each map behind those before it.
 -- Assumes nothing.
 use mathlib.Core.Path.{◌≡◌, refl, sym, ap, ap₂, ◌∙◌}
-use mathlib.Core.List.{List}
-use Prim.Native.Nat.{ℕ, suc, ◌+◌, ◌-◌, ◌*◌, ◌<◌, ◌≤◌}
+use mathlib.Core.List.{List, [], ◌∷◌, ◌++◌}
+use Prim.Native.Nat.{ℕ, suc, ◌+◌, ◌-◌, ◌*◌, ◌/◌, ◌%◌, ◌^◌, ◌<◌, ◌≤◌}
 use native.Mathlib.Nat.{zero-add}
 use native.Mathlib.Numerals.{add-one}
 use native.Mathlib.Omega.{arith}
-use lib.ListN.{length, get_or, take, drop, set, length-append}
-use lib.Seq.{sets}
+use lib.ListN.{length, get_or, take, drop, length-append}
+use lib.Seq.{sets, sets-eq, take-length}
+use borrow.Rule.Slice.PartMut.{put_mid}
+use mir.Syntax.{w16}
+use Rattle.std.specs.Int.{to_le_bytes}
+use Rattle.std.proofs.lemmas.Slice.{put_mid-paste}
 use Rattle.indexed.specs.List.{tabulate, blocks}
-use Rattle.indexed.proofs.Stores.{sets_append, sets_taken}
+use Rattle.indexed.proofs.Stores.{sets_append}
 use Rattle.indexed.proofs.Tabulate.{length_tabulate, get_d_tabulate}
 use Rattle.register.specs.Bit.{of_bits}
 use Rattle.register.proofs.Bit.{of_bits_drop, of_bits_drop_le}
@@ -50,16 +54,29 @@ module _ (changed : List ℕ) (b : ℕ) where
   entered_all = refl
 
 -- its place in the bit map
-get_or_bit_map : (changed : List ℕ) (b : ℕ) → b < bit_map_length (length changed) → get_or (bit_map changed) b 0 ≡ bit_map_byte changed b
+pub get_or_bit_map : (changed : List ℕ) (b : ℕ) → b < bit_map_length (length changed) → get_or (bit_map changed) b 0 ≡ bit_map_byte changed b
 unfolding bit_map
 get_or_bit_map changed b h = get_d_tabulate (bit_map_length (length changed)) (bit_map_byte changed) b 0 h
 
--- the bytes of the bit map stored, and one more
-pub bit_map_more : (changed log log' : List ℕ) (b v : ℕ) → log' ≡ sets log 0 (take b (bit_map changed)) → b < bit_map_length (length changed)
-    → v ≡ bit_map_byte changed b → set log' b v ≡ sets log 0 (take (b + 1) (bit_map changed))
-bit_map_more changed log log' b v e h is =
-    ap₂ (λ (k x : ℕ). set log' k x) (sym (zero-add b)) (is ∙ sym (get_or_bit_map changed b h))
-    ∙ sets_taken (bit_map changed) log log' 0 b e (omega (arith, length_bit_map changed))
+-- ---- a part of the log that is stored at once
+
+pub part_stored : (at k : ℕ) (log part : List ℕ) → k ≡ length part → at + length part ≤ length log → put_mid at k log part ≡ sets log at part
+part_stored at k log part long within =
+    put_mid-paste at k log part part (length part) refl (sym long) refl
+    ∙ ap (λ (l : List ℕ). take at log ++ l ++ drop (at + length part) log) (take-length part)
+    ∙ sym (sets-eq part log at within)
+
+-- the bit map, which is stored in front
+pub bit_map_stored : (changed log part : List ℕ) (front : ℕ) → front ≡ bit_map_length (length changed) → part ≡ bit_map changed
+    → bit_map_length (length changed) ≤ length log → part ++ drop front log ≡ sets log 0 (bit_map changed)
+bit_map_stored changed log part front size made within =
+    let long = length_bit_map changed in
+    ap₂ (λ (l : List ℕ) (n : ℕ). l ++ drop n log) made (size ∙ sym (zero-add (length (bit_map changed)) ∙ long))
+    ∙ sym (sets-eq (bit_map changed) log 0 (omega (arith, long)))
+
+-- the two bytes of a map
+pub bytes_of_map : (map : ℕ) → map < 2 ^ 16 → to_le_bytes w16 map ≡ map % 256 ∷ map / 256 ∷ []
+bytes_of_map map h = let high : map / 256 % 256 ≡ map / 256 = omega (arith, h) in ap (λ (n : ℕ). map % 256 ∷ n ∷ []) high
 
 -- ---- the maps behind it
 

@@ -2,9 +2,7 @@
 
 #![tactic(auto)]
 
-mod direction;
 mod store;
 mod writer;
 
-pub use direction::{log_backward, log_forward};
-pub use writer::log_by;
+pub use writer::write_log;

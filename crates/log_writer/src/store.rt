@@ -10,13 +10,7 @@ use sense_log::bit_map_length;
 fn standing_at(changed: &[u16], g: usize) -> u8
     ensures { result ≡ standing (get_or changed.now g 0) }
 {
-    if g >= changed.len() {
-        return 0;
-    }
-    if changed[g] == 0 {
-        return 0;
-    }
-    1
+    (g < changed.len() && changed[g] != 0) as u8
 }
 
 // Byte b of the bit map: the bits of eight groups, the highest entered first.
@@ -25,27 +19,20 @@ fn bit_map_byte(changed: &[u16], b: usize) -> u8
     ensures { result ≡ bit_map_byte changed.now b }
 {
     let mut byte: u8 = 0;
-    let mut i = 8;
-    while i > 0 {
-        i -= 1;
+    for i in (0..8).rev() {
         byte = 2 * byte + standing_at(changed, 8 * b + i);
     }
     byte
 }
 
-// Stores the bit map, and tells its length.
-fn store_bit_map(changed: &[u16], log: &mut [u8]) -> usize
-    requires { (length changed.now ≤ most_groups) × (bit_map_length (length changed.now) ≤ length log.old) }
-    ensures length { result ≡ bit_map_length (length changed.now) }
-    ensures log { log.new ≡ sets log.old 0 (bit_map changed.now) }
+// Stores the bit map, which has as many bytes as the output.
+fn store_bit_map(changed: &[u16], bytes: &mut [u8])
+    requires { (length changed.now ≤ most_groups) × (length bytes.old ≡ bit_map_length (length changed.now)) }
+    ensures { bytes.new ≡ bit_map changed.now }
 {
-    let size = bit_map_length(changed.len());
-    let mut b = 0;
-    while b < size {
-        log[b] = bit_map_byte(changed, b);
-        b += 1;
+    for (b, byte) in bytes.iter_mut().enumerate() {
+        *byte = bit_map_byte(changed, b);
     }
-    size
 }
 
 // Stores a group's map at a place, the low byte first, and tells the place behind; a map of no track is not stored.
@@ -57,8 +44,7 @@ fn store_map(map: u16, log: &mut [u8], at: usize) -> usize
     if map == 0 {
         return at;
     }
-    log[at] = (map % 256) as u8;
-    log[at + 1] = (map / 256) as u8;
+    log[at..at + 2].copy_from_slice(&map.to_le_bytes());
     at + 2
 }
 
@@ -68,11 +54,11 @@ pub(crate) fn store_log(changed: &[u16], log: &mut [u8]) -> usize
     ensures length { result ≡ length (log_of changed.now) }
     ensures log { log.new ≡ sets log.old 0 (log_of changed.now) }
 {
-    let mut end = store_bit_map(changed, log);
-    let mut g = 0;
-    while g < changed.len() {
-        end = store_map(changed[g], log, end);
-        g += 1;
+    let front = bit_map_length(changed.len());
+    store_bit_map(changed, &mut log[..front]);
+    let mut end = front;
+    for map in changed {
+        end = store_map(*map, log, end);
     }
     end
 }

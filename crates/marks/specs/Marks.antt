@@ -1,6 +1,6 @@
 -- The marks of a picture: what is shown of one track in one column, a group at 6250 and a run of 32 characters at 800.
 -- Assumes nothing.
-use Rattle.std.specs.Prelude.{ℕ, ◌+◌, ◌-◌, ◌*◌, ◌/◌, ◌%◌, min, Bool, false, cond, not, ◌&&◌, List, eqb, leb, length, get_or}
+use Rattle.std.specs.Prelude.{ℕ, ◌+◌, ◌-◌, ◌*◌, ◌/◌, ◌%◌, min, Bool, false, cond, not, ◌&&◌, List, Option, None, Some, eqb, leb, length, get_or}
 use Rattle.indexed.specs.List.{tabulate}
 use Rattle.slices.specs.Turned.{turned_place}
 use Rattle.indexed.specs.Test.{all_below}
@@ -8,19 +8,28 @@ use Rattle.register.specs.Bit.{bit}
 use Rattle.rectangular.specs.Constants.{tracks}
 use Rattle.group_code.specs.Word.{legal_word}
 use Rattle.record6250.specs.Picture.{group_read, map_read}
+use Rattle.marks.specs.declared.marks.Pointer.{Pointer}
+use Rattle.marks.specs.declared.marks.Pointer.TheVariants.{Drive, Word}
 use Rattle.marks.specs.declared.marks.View.{View}
 
--- x in a refused column; else C pointed by the drive and corrected, p pointed and right, i an illegal word, which points
+-- in a column that was not refused: C pointed by the drive and corrected, p pointed and right, i an illegal word, which points
 -- itself, c corrected, and a dot as read
-abbrev pub mark_of : Bool → Bool → Bool → Bool → ℕ
-mark_of pointed illegal changed refused = cond refused 120 (cond pointed (cond changed 67 112) (cond illegal 105 (cond changed 99 46)))
+abbrev pub mark_of : Option Pointer → Bool → ℕ
+mark_of (Some Drive) changed = cond changed 67 112
+mark_of (Some Word) changed = 105
+mark_of None changed = cond changed 99 46
 
--- the drive points a track by its bit of the group's map
-abbrev pub is_pointed : ℕ → ℕ → Bool
-is_pointed map track = eqb (bit track map) 1
+-- x in the refused column
+abbrev pub marked : Option ℕ → ℕ → ℕ → ℕ
+marked (Some refused) column mark = cond (eqb refused column) 120 mark
+marked None column mark = mark
 
 abbrev pub is_illegal : ℕ → Bool
 is_illegal word = not (legal_word word)
+
+-- the drive points a track by its bit of the group's map, and goes before an illegal word
+abbrev pub pointer_of : ℕ → ℕ → ℕ → Option Pointer
+pointer_of map word track = cond (eqb (bit track map) 1) (Some Drive) (cond (is_illegal word) (Some Word) None)
 
 -- a word or a bit is corrected if the record that was delivered has another; a refusal corrects nothing
 abbrev pub is_changed : Bool → ℕ → ℕ → Bool
@@ -33,9 +42,10 @@ word_read backward words groups g track = get_or (group_read backward groups wor
 -- track of group g, the words that were delivered beside it
 unfoldable pub group_mark : View → List ℕ → List ℕ → List ℕ → ℕ → ℕ → ℕ
 group_mark view words maps right g track =
-    mark_of (is_pointed (map_read view.backward (length maps) maps g) track) (is_illegal (word_read view.backward words (length maps) g track))
-    (is_changed view.delivered (word_read view.backward words (length maps) g track) (word_read false right (length maps) g track))
-    (eqb g view.place)
+    let word = word_read view.backward words (length maps) g track in
+    marked view.refused g
+    (mark_of (pointer_of (map_read view.backward (length maps) maps g) word track)
+    (is_changed view.delivered word (word_read false right (length maps) g track)))
 
 -- all marks, one for each track in each column
 unfoldable pub group_marks : View → List ℕ → List ℕ → List ℕ → List ℕ
@@ -60,11 +70,11 @@ run_right backward characters right track from =
 -- a track in a run; the drive does not point at 800, and no character is illegal
 unfoldable pub run_mark : View → List ℕ → List ℕ → ℕ → ℕ → ℕ
 run_mark view characters right column track =
-    mark_of false false (view.delivered && not (run_right view.backward characters right track (32 * column))) (eqb column view.place)
+    marked view.refused column (mark_of None (view.delivered && not (run_right view.backward characters right track (32 * column))))
 
 unfoldable pub run_marks : View → List ℕ → List ℕ → ℕ → List ℕ
 run_marks view characters right columns = tabulate (tracks * columns) (λ i. run_mark view characters right (i / tracks) (i % tracks))
 
 -- the refusals 3, 4 and 5 have a place that is a group or a character; those of any other number refuse no column
-abbrev pub refused_column : ℕ → ℕ → ℕ → ℕ
-refused_column number column columns = cond (leb 3 number && leb number 5) column columns
+abbrev pub refused_column : ℕ → ℕ → Option ℕ
+refused_column number column = cond (leb 3 number && leb number 5) (Some column) None

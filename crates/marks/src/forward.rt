@@ -10,6 +10,7 @@ use rectangular::Code6250;
 use slices::turned_place;
 
 // Bit k of a value.
+#[tactic(auto, unfolding(register::specs::Bit::bit))]
 pub(crate) fn bit_of(value: u16, k: usize) -> u16
     requires { k < 16 }
     ensures { result ≡ bit k value }
@@ -25,15 +26,14 @@ fn reversed_word(word: u16) -> u16
         return word;
     }
     let mut reversed: u16 = 0;
-    let mut k = 0;
-    while k < 10 {
+    for k in 0..10 {
         reversed = 2 * reversed + bit_of(word, k);
-        k += 1;
     }
     reversed
 }
 
 // A word of a reading as it stands in the forward picture.
+#[tactic(auto, unfolding(group_code::specs::Word::forward_word))]
 fn forward_word(backward: bool, word: u16) -> u16
     ensures { result ≡ forward_word backward word }
 {

@@ -1,82 +1,65 @@
 -- A text that fits on a page, one that does not, and one text behind another; and the digits of a number.
 -- Assumes nothing.
 use Prim.Native.Nat.{ℕ, zero, suc, ◌+◌, ◌-◌, ◌/◌, ◌%◌, ◌^◌, ◌≤◌, ◌<◌, max}
-use mathlib.Core.Path.{◌≡◌, refl, sym, ap, ap₂, ◌∙◌}
+use mathlib.Core.Path.{◌≡◌, refl, sym, ap, ◌∙◌}
 use mathlib.Core.Bool.{Bool, true, false, true≢false}
 use mathlib.Core.List.{List, [], ◌∷◌, ◌++◌}
-use native.Mathlib.Nat.{add-zero, add_assoc, le_trans, lt_irrefl, lt_of_lt_of_le, pow-le-pow_right}
+use native.Mathlib.Nat.{le_trans, lt_irrefl, lt_of_lt_of_le, pow-le-pow_right}
 use native.Mathlib.Numerals.{add-one}
 use native.Mathlib.Omega.{arith}
 use borrow.Author.Tests.{le-leb, lt-leb, lt-ltb, le-ltb, leb-true, leb-false, ltb-true, ltb-false}
 use lib.Dec.{leb, ltb}
-use lib.ListN.{length, length-append}
-use lib.Seq.{sets}
+use lib.ListN.{length, length-append, take}
+use lib.Seq.{length-take-le}
+use Rattle.std.specs.Prelude.{Option, None, Some}
+use Rattle.std.proofs.Common.{append-nil, append_assoc}
 use Rattle.io.specs.Digits.{last_digits, hex_digit_ascii, IsDigitCount}
 use Rattle.indexed.specs.List.{first_below}
 use Rattle.indexed.proofs.Below.{first_below_at, first_below_before, first_below_le}
-use Rattle.indexed.proofs.Stores.{sets_append}
-use Rattle.page.specs.Page.{page_size, held_after, Printed, places, numeral}
+use Rattle.page.specs.Page.{page_size, text_after, Printed, places, numeral}
 
-module _ (text page page' : List ℕ) (held : ℕ) where
-  pub printed : held + length text ≤ page_size → page' ≡ sets page held text → Printed text page held page' (held + length text)
-  printed fits e = record { count = rw (le-leb _ _ fits) refl; stored = λ _. e }
+module _ (held text : List ℕ) where
+  pub after_fits : length text ≤ page_size - length held → text_after (Some held) text ≡ Some (held ++ text)
+  unfolding text_after
+  after_fits h = rw (le-leb _ _ h) refl
 
-  pub not_printed : (held' : ℕ) → page_size < held + length text → held' ≡ max held (page_size + 1) → Printed text page held page' held'
-  not_printed held' over e = record { count = rw (lt-leb _ _ over) e; stored = λ fits. absurd (omega arith) }
+  pub after_over : page_size - length held < length text → text_after (Some held) text ≡ None
+  unfolding text_after
+  after_over h = rw (lt-leb _ _ h) refl
 
-held_fits : (held count : ℕ) → held + count ≤ page_size → held_after held count ≡ held + count
-held_fits held count h = rw (le-leb _ _ h) refl
-
-held_over : (held count : ℕ) → page_size < held + count → held_after held count ≡ max held (page_size + 1)
-held_over held count h = rw (lt-leb _ _ h) refl
-
-held_both : (held m n : ℕ) → held_after (held_after held m) n ≡ held_after held (m + n)
-held_both held m n = by (leb (held + m) page_size) (leb (held + m + n) page_size) refl refl
-  where
-    whole : held + m + n ≤ page_size → held_after (held_after held m) n ≡ held_after held (m + n)
-    whole h =
-        ap (λ (k : ℕ). held_after k n) (held_fits held m (omega arith)) ∙ held_fits (held + m) n h ∙ add_assoc held m n ∙ sym (held_fits held (m + n) (omega arith))
-
-    late : held + m ≤ page_size → page_size < held + m + n → held_after (held_after held m) n ≡ held_after held (m + n)
-    late h over =
-        let same : max (held + m) (page_size + 1) ≡ max held (page_size + 1) = omega arith in
-        ap (λ (k : ℕ). held_after k n) (held_fits held m h) ∙ held_over (held + m) n over ∙ same ∙ sym (held_over held (m + n) (omega arith))
-
-    early : page_size < held + m → held_after (held_after held m) n ≡ held_after held (m + n)
-    early over =
-        let same : max (max held (page_size + 1)) (page_size + 1) ≡ max held (page_size + 1) = omega arith in
-        ap (λ (k : ℕ). held_after k n) (held_over held m over) ∙ held_over (max held (page_size + 1)) n (omega arith) ∙ same ∙ sym (held_over held (m + n) (omega arith))
-
-    by : (a b : Bool) → leb (held + m) page_size ≡ a → leb (held + m + n) page_size ≡ b → held_after (held_after held m) n ≡ held_after held (m + n)
-    by a true e f = whole (leb-true _ _ f)
-    by true false e f = late (leb-true _ _ e) (leb-false _ _ f)
-    by false false e f = early (leb-false _ _ e)
+-- a text that does not fit leaves none
+pub not_printed : (bytes : List ℕ) (held : ℕ) (text : List ℕ) → held ≤ page_size → length bytes ≡ page_size → page_size - held < length text → Printed text (Some (take held bytes)) None
+not_printed bytes held text within size over =
+    sym (after_over (take held bytes) text (omega (arith, over, length-take-le held bytes (rw size within))))
 
 -- no text changes nothing
-pub printed_none : (page : List ℕ) (held : ℕ) → Printed [] page held page held
-printed_none page held = record { count = by (leb held page_size) refl; stored = λ _. refl }
-  where
-    fits : held ≤ page_size → held ≡ held_after held 0
-    fits h = sym (held_fits held 0 (omega arith) ∙ add-zero held)
-
-    over : page_size < held → held ≡ held_after held 0
-    over h = let same : held ≡ max held (page_size + 1) = omega arith in same ∙ sym (held_over held 0 (omega arith))
-
-    by : (b : Bool) → leb held page_size ≡ b → held ≡ held_after held 0
-    by true e = fits (leb-true _ _ e)
-    by false e = over (leb-false _ _ e)
+pub after_none : (page : Option (List ℕ)) → text_after page [] ≡ page
+unfolding text_after
+after_none None = refl
+after_none (Some held) = after_fits held [] (omega arith) ∙ ap Some (append-nil held)
 
 -- one text behind another
-pub printed_both : {a b p q r : List ℕ} {h i j : ℕ} → Printed a p h q i → Printed b q i r j → Printed (a ++ b) p h r j
-printed_both {a} {b} {p} {q} {r} {h} {i} {j} s t =
-    let both : length (a ++ b) ≡ length a + length b = length-append a b in
-    record {
-      count = t.count ∙ ap (λ (k : ℕ). held_after k (length b)) s.count ∙ held_both h (length a) (length b) ∙ ap (held_after h) (sym both);
-      stored = λ fits.
-          let first : h + length a ≤ page_size = omega arith in
-          let at : i ≡ h + length a = s.count ∙ held_fits h (length a) first in
-          t.stored (omega arith) ∙ ap₂ (λ (l : List ℕ) (k : ℕ). sets l k b) (s.stored first) at ∙ sets_append a b p h;
-    }
+pub after_both : (page : Option (List ℕ)) (a b : List ℕ) → text_after (text_after page a) b ≡ text_after page (a ++ b)
+unfolding text_after
+after_both None a b = refl
+after_both (Some held) a b = by (leb (length a) (page_size - length held)) refl
+  where
+    rest : length a ≤ page_size - length held → text_after (Some (held ++ a)) b ≡ text_after (Some held) (a ++ b)
+    rest fits = of (leb (length b) (page_size - length (held ++ a))) refl
+      where
+        of : (t : Bool) → leb (length b) (page_size - length (held ++ a)) ≡ t → text_after (Some (held ++ a)) b ≡ text_after (Some held) (a ++ b)
+        of true e =
+            after_fits (held ++ a) b (leb-true _ _ e) ∙ ap Some (append_assoc held a b)
+            ∙ sym (after_fits held (a ++ b) (omega (arith, fits, leb-true _ _ e, length-append held a, length-append a b)))
+        of false e =
+            after_over (held ++ a) b (leb-false _ _ e) ∙ sym (after_over held (a ++ b) (omega (arith, fits, leb-false _ _ e, length-append held a, length-append a b)))
+
+    by : (t : Bool) → leb (length a) (page_size - length held) ≡ t → text_after (text_after (Some held) a) b ≡ text_after (Some held) (a ++ b)
+    by true e = ap (λ p. text_after p b) (after_fits held a (leb-true _ _ e)) ∙ rest (leb-true _ _ e)
+    by false e = ap (λ p. text_after p b) (after_over held a (leb-false _ _ e)) ∙ sym (after_over held (a ++ b) (omega (arith, leb-false _ _ e, length-append a b)))
+
+pub printed_both : (a b : List ℕ) (p : Option (List ℕ)) {q r : Option (List ℕ)} → Printed a p q → Printed b q r → Printed (a ++ b) p r
+printed_both a b p s t = t ∙ ap (λ q. text_after q b) s ∙ after_both p a b
 
 -- the places of a number are the fewest that hold it
 module _ (base least n k : ℕ) (b : 1 ≤ base) (l : 1 ≤ least) (short : least ≤ 20) (small : n < base ^ 20) (f : IsDigitCount base least n k) where

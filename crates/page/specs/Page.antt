@@ -1,7 +1,6 @@
 -- What a page holds.
 -- Assumes nothing.
-use Rattle.std.specs.Prelude.{ℕ, suc, ◌+◌, ◌^◌, ◌≤◌, ◌<◌, max, ◌≡◌, cond, List, leb, ltb, length}
-use Rattle.std.proofs.lemmas.List.Edits.{sets}
+use Rattle.std.specs.Prelude.{ℕ, suc, ◌+◌, ◌-◌, ◌^◌, ◌≤◌, max, ◌≡◌, cond, List, ◌++◌, leb, ltb, length, take, Option, None, Some}
 use Rattle.io.specs.Digits.{last_digits}
 use Rattle.indexed.specs.List.{first_below}
 
@@ -9,19 +8,29 @@ use Rattle.indexed.specs.List.{first_below}
 abbrev pub page_size : ℕ
 page_size = 65536
 
--- how many bytes are held once so many more came: once a text did not fit, more than a page is held, whatever comes behind it
-abbrev pub held_after : ℕ → ℕ → ℕ
-held_after held count = cond (leb (held + count) page_size) (held + count) (max held (page_size + 1))
+-- the text at the front of a page; none once a text did not fit
+abbrev pub page_text : List ℕ → Option ℕ → Option (List ℕ)
+page_text bytes None = None
+page_text bytes (Some held) = Some (take held bytes)
 
--- A text is put on a page behind the bytes that are held: the page and how many bytes are held, before and after. Where the
--- text does not fit, so much is held that nothing of the page is handed over.
-pub record Printed (text page : List ℕ) (held : ℕ) (page' : List ℕ) (held' : ℕ) : Type 0 where
-  pub count : held' ≡ held_after held (length text)
-  pub stored : held + length text ≤ page_size → page' ≡ sets page held text
+-- what is held is within the page
+abbrev pub InPage : Option ℕ → Type 0
+InPage None = Unit {0}
+InPage (Some held) = held ≤ page_size
 
--- a text that does not fit leaves the page as it was
-abbrev pub Kept : List ℕ → List ℕ → ℕ → List ℕ → Type 0
-Kept text page held page' = page_size < held + length text → page' ≡ page
+-- the text of a page once another came behind it: none once one did not fit, whatever comes behind it
+unfoldable pub text_after : Option (List ℕ) → List ℕ → Option (List ℕ)
+text_after None text = None
+text_after (Some held) text = cond (leb (length text) (page_size - length held)) (Some (held ++ text)) None
+
+-- how many bytes a page holds: once a text did not fit, more than there is space for
+abbrev pub held_count : Option (List ℕ) → ℕ
+held_count None = page_size + 1
+held_count (Some text) = length text
+
+-- A text is put on a page behind what is held, before and after. Where the text does not fit, nothing of the page is handed over.
+abbrev pub Printed : List ℕ → Option (List ℕ) → Option (List ℕ) → Type 0
+Printed text page page' = page' ≡ text_after page text
 
 -- how many digits a number has in a base, and no fewer than the least; one of 64 bits has 20 at most
 unfoldable pub places : ℕ → ℕ → ℕ → ℕ

@@ -5,7 +5,6 @@ use mathlib.Core.Path.{◌≡◌, sym, ap, ap₂, ◌∙◌}
 use Prim.Native.Nat.{ℕ, ◌*◌, ◌/◌, ◌%◌, ◌^◌, ◌<◌}
 use native.Mathlib.Omega.{arith}
 use lib.Bits.{bit_and, xor_shr, xor_mod}
-use Rattle.indexed.specs.Rule.{value_at}
 use Rattle.indexed.proofs.Test.{equal, equal₂}
 use Rattle.register.specs.Matrix.{product}
 use Rattle.register.specs.Shift.{shift, shifts}
@@ -73,11 +72,11 @@ summed_is = linear_agree 64 summed product_sum summed_linear product_sum_linear 
 -- ---- the sum reduced
 
 -- what the table gives for the seven bits above: a test of every entry
-eighth : (h : ℕ) → h < 128 → value_at (product eighth_power) h % 256 ≡ shifts 8 feedback 8 h
+eighth : (h : ℕ) → h < 128 → product eighth_power h % 256 ≡ shifts 8 feedback 8 h
 unfolding shift shifts
-eighth = equal 128 (λ h. value_at (product eighth_power) h % 256) (shifts 8 feedback 8) tt
+eighth = equal 128 (λ h. product eighth_power h % 256) (shifts 8 feedback 8) tt
 
-pub reduced_is : (s r : ℕ) → r ≡ value_at (product eighth_power) (s / 256 % 128)
+pub reduced_is : (s r : ℕ) → r ≡ product eighth_power (s / 256 % 128)
     → (s ⊕ r) % 256 ≡ (s % 256) ⊕ shifts 8 feedback 8 (s / 256 % 128)
 reduced_is s r e =
     xor_mod s r 8

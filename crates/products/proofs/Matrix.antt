@@ -1,23 +1,28 @@
 -- A matrix in a number times a byte: masks pick its columns, and a linear function is the matrix of its values at the places.
 -- Assumes nothing.
 use mathlib.Core.Path.{◌≡◌, sym, ap, ◌∙◌}
-use mathlib.Core.List.{List}
-use Prim.Native.Nat.{ℕ, ◌+◌, ◌*◌, ◌/◌, ◌%◌, ◌^◌, ◌<◌}
+use Prim.Native.Nat.{ℕ, suc, ◌+◌, ◌-◌, ◌*◌, ◌/◌, ◌%◌, ◌^◌, ◌<◌, ◌≤◌}
 use native.Mathlib.Nat.{mod-eq_of_lt, zero-mul, one-mul}
+use native.Mathlib.Omega.{arith}
 use lib.Bits.{bit_and, and_comm, and_mask, and_shr, and_mod}
 use Rattle.indexed.specs.List.{tabulate}
 use lib.Dec.{ltb, ltb→lt}
+use lib.ListN.{get_or}
+use Rattle.indexed.proofs.Tabulate.{tabulate_same}
 use Rattle.indexed.proofs.Test.{tested, equal₂}
 use Rattle.register.specs.Bit.{bit}
-use Rattle.register.specs.Shift.{shifts}
+use Rattle.register.specs.Shift.{shift, shifts}
+use Rattle.register.specs.Sum.{xor_sum}
 use Rattle.register.proofs.Bit.{bit_lt}
 use Rattle.register.proofs.Linear.{Linear, linear_expanded}
 use Rattle.register.proofs.Shift.{shifts_xor}
 use Rattle.register.proofs.Sum.{sum_ext, sum_xor}
 use Rattle.register.proofs.Xor.{digit_ind}
+use Rattle.rectangular.specs.Constants.{feedback, exponent}
 use Rattle.rectangular.specs.Syndrome.{erasure}
 use Rattle.group6250.specs.Packed.{byte_at, bytes_of, parity_byte}
 use Rattle.products.specs.Product.{product_of}
+use Rattle.products.specs.declared.product.TheConstants.{INVERSES}
 use Rattle.group6250.proofs.Bytes.{byte_lt, byte_of}
 
 -- ---- masks
@@ -75,6 +80,14 @@ erasure_linear w f n d hf a b ha hb =
     sum_ext (n / 2) _ _ (λ k _. shifts_xor w f (d * (2 * k + 1)) a b hf ha hb)
     ∙ sum_xor (n / 2) (λ k. shifts w f (d * (2 * k + 1)) a) (λ k. shifts w f (d * (2 * k + 1)) b)
 
--- the columns at a number that is known
-pub at_known : (f : ℕ → List ℕ) (d n : ℕ) {l : List ℕ} → d ≡ n → l ≡ f n → l ≡ f d
-at_known f d n e same = same ∙ ap f (sym e)
+-- ---- the inverses of I + T^d: a test of every column of seven
+
+inverse_column : (k j : ℕ) → k < 7 → j < 8 → byte_at j (get_or INVERSES k 0) ≡ erasure 8 feedback exponent (suc k) (2 ^ j)
+unfolding byte_at erasure xor_sum shift shifts
+inverse_column = equal₂ 7 8 (λ k j. byte_at j (get_or INVERSES k 0)) (λ k j. erasure 8 feedback exponent (suc k) (2 ^ j)) tt
+
+pub inverses : (d : ℕ) → 1 ≤ d → d ≤ 7 → bytes_of (get_or INVERSES (d - 1) 0) ≡ tabulate 8 (λ j. erasure 8 feedback exponent d (2 ^ j))
+unfolding bytes_of
+inverses d low high =
+    let same : suc (d - 1) ≡ d = omega arith in
+    tabulate_same 8 _ _ (λ j h. inverse_column (d - 1) j (omega arith) h ∙ ap (λ (d : ℕ). erasure 8 feedback exponent d (2 ^ j)) same)

@@ -23,20 +23,24 @@ fn applied(columns: u64, x: u8) -> u8
     parity(masks & columns)
 }
 
-// The inverse of I + T^d, of equation (21).
+// The inverses of I + T^d, of equation (21), for d from 1.
+static INVERSES: [u64; 7] = [
+    0x97D7F7E7EFEBE9E8,
+    0x9A4DBA5DB259B058,
+    0x318442218C46238D,
+    0xC5FE7FA3CDFA7DA2,
+    0x48241209984C2613,
+    0xEE77A7CFFBE1EC76,
+    0x3C1E0F9BD1F47A3D,
+];
+
+// The inverse of I + T^d.
+#[tactic(auto, using(crate::proofs::Matrix::inverses))]
 fn erasure_columns(d: usize) -> u64
     requires { (1 ≤ d) × (d ≤ 7) }
     ensures { bytes_of result ≡ tabulate 8 (λ k. erasure 8 feedback exponent d (2 ^ k)) }
 {
-    match d {
-        1 => 0x97D7F7E7EFEBE9E8,
-        2 => 0x9A4DBA5DB259B058,
-        3 => 0x318442218C46238D,
-        4 => 0xC5FE7FA3CDFA7DA2,
-        5 => 0x48241209984C2613,
-        6 => 0xEE77A7CFFBE1EC76,
-        _ => 0x3C1E0F9BD1F47A3D,
-    }
+    INVERSES[d - 1]
 }
 
 // The inverse of I + T^d times x.

@@ -12,6 +12,7 @@ use remainder::reduced;
 
 // The sum of X^j Z_j, unreduced, which has 15 bits: tracks are added two by two, then the sums of two, then
 // those of four.
+#[tactic(auto, using(crate::proofs::Check::summed_is), unfolding(crate::proofs::Check::summed, crate::proofs::Check::halved))]
 fn sum(tracks: u64) -> u64
     ensures { result ≡ xor_sum 8 (λ j. byte_at j tracks * 2 ^ j) }
 {
@@ -21,6 +22,7 @@ fn sum(tracks: u64) -> u64
 }
 
 // A sum of 15 bits, reduced modulo g: its lowest eight bits, and what the seven above them leave.
+#[tactic(auto, using(crate::proofs::Check::reduced_is))]
 fn reduced_sum(sum: u64) -> u8
     ensures { result ≡ (sum % 256) ⊕ shifts 8 feedback 8 (sum / 256 % 128) }
 {

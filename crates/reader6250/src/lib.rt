@@ -2,9 +2,7 @@
 
 #![tactic(auto)]
 
-mod direction;
 mod reader;
 
-pub use direction::{read_backward, read_forward, read_record};
-pub use reader::read_by;
-pub use scan6250::{Figures, Read};
+pub use reader::read_record;
+pub use scan6250::Figures;

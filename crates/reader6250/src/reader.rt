@@ -1,111 +1,54 @@
-// Reading a record: it is judged into an array of its own, and its data are delivered once all of it is known to fit.
-ghost use Rattle.std.specs.Prelude.{true, ◌++◌, ◌≡◌, ◌*◌, ◌≤◌, length, take, drop};
+// Reading a record: it is judged into arrays of its own, and its data are delivered once all of it is known to fit.
+ghost use Rattle.std.specs.Prelude.{true, ◌≡◌, ◌*◌, ◌^◌, ◌<◌, ◌≤◌, length};
 ghost use Rattle.answer.specs.Answer.{output_after};
-ghost use Rattle.group_code.specs.Word.{readings};
 ghost use Rattle.rectangular.specs.Constants.{bytes_per_group};
-ghost use Rattle.record6250.specs.Read.{lengths_suit, space_for, read_data, answer_if, read_answer};
+ghost use Rattle.record6250.specs.Read.{space_for, read_data, answer_if, read_answer};
 ghost use Rattle.scan6250.specs.Told.{told_read};
-ghost use Rattle.reader6250.specs.Told.{length_told};
 ghost use Rattle.terms.specs.Call as Call;
 ghost use Rattle.terms.specs.Reading.{at6250};
 ghost use Rattle.terms.specs.Terms.{Terms};
 
-use answer::Reason;
+use answer::{Reason, Refusal};
 use rectangular::Code6250;
-use scan6250::{Read, SHORT, judge_record, lengths_suit, refused};
+use scan6250::{Figures, LONG, LONG_BYTES, Reading, SHORT, SHORT_BYTES, judge_record};
 
-// The length of the data that a reading delivers; a refusal delivers none.
-fn data_length(read: Read) -> usize
-    ensures { result ≡ length_told (told_read read) }
+// Reads a record that has space, judged into arrays of so many groups and bytes.
+fn read_within<const GROUPS: usize, const BYTES: usize>(
+    reading: &Reading,
+    output: &mut [u8],
+) -> Result<Figures, Refusal>
+    requires { (length reading.now.maps.now ≤ GROUPS) × (bytes_per_group * length reading.now.maps.now ≤ BYTES) × (space_for (length reading.now.maps.now) ≤ length output.old) × (GROUPS < 2 ^ 32) × (BYTES < 2 ^ 32) }
+    ensures answer { told_read result ≡ answer_if reading.now.backward reading.now.words.now reading.now.maps.now true }
+    ensures output { output.new ≡ output_after (told_read result) (read_data reading.now.backward reading.now.words.now reading.now.maps.now) output.old }
 {
-    match read {
-        Read::Delivered(figures) => figures.length,
-        Read::Refused(_) => 0,
-    }
+    let mut body = [0u8; BYTES];
+    let mut changed = [0u16; GROUPS];
+    let figures = judge_record(reading, &mut body, &mut changed)?;
+    let data = &mut output[..figures.length];
+    data.copy_from_slice(&body[..figures.length]);
+    Ok(figures)
 }
 
-// Copies the first bytes to the front of the output.
-fn deliver(bytes: &[u8], count: usize, output: &mut [u8])
-    requires { (count ≤ length bytes.now) × (count ≤ length output.old) }
-    ensures { output.new ≡ take count bytes.now ++ drop count output.old }
-{
-    let mut k = 0;
-    while k < count {
-        output[k] = bytes[k];
-        k += 1;
-    }
-}
-
-// Reads a record whose lengths and space suit.
-fn read_within(
+// Reads a record: the words of each group, tracks 0 to 8, and a pointer map for each. One that passed the head backward has groups and
+// maps last first, and each word's bits reversed. A short record takes small arrays, since an array is cleared.
+pub fn read_record(
     words: &[u16],
     maps: &[u16],
     backward: bool,
-    table: &[u16],
-    body: &mut [u8],
-    changed: &mut [u16],
     output: &mut [u8],
-) -> Read
-    requires { (lengths_suit (length words.now) (length maps.now) ≡ true) × (bytes_per_group * length maps.now ≤ length body.old) × (length maps.now ≤ length changed.old) × (space_for (length maps.now) ≤ length output.old) × (table.now ≡ readings backward) }
-    ensures answer { told_read result ≡ answer_if backward words.now maps.now true }
-    ensures output { output.new ≡ output_after (told_read result) (read_data backward words.now maps.now) output.old }
-{
-    let read = judge_record(words, maps, backward, table, body, changed);
-    deliver(body, data_length(read), output);
-    read
-}
-
-// Reads a record whose lengths and space suit, into arrays of its own; a short record takes small ones.
-fn read_sized(words: &[u16], maps: &[u16], backward: bool, table: &[u16], output: &mut [u8]) -> Read
-    requires { (lengths_suit (length words.now) (length maps.now) ≡ true) × (space_for (length maps.now) ≤ length output.old) × (table.now ≡ readings backward) }
-    ensures answer { told_read result ≡ answer_if backward words.now maps.now true }
-    ensures output { output.new ≡ output_after (told_read result) (read_data backward words.now maps.now) output.old }
-{
-    if maps.len() <= SHORT {
-        let mut body = [0u8; SHORT * Code6250::BYTES];
-        let mut changed = [0u16; SHORT];
-        return read_within(
-            words,
-            maps,
-            backward,
-            table,
-            &mut body,
-            &mut changed,
-            output,
-        );
-    }
-    let mut body = [0u8; Code6250::MOST_BODY];
-    let mut changed = [0u16; Code6250::MOST_GROUPS];
-    read_within(
-        words,
-        maps,
-        backward,
-        table,
-        &mut body,
-        &mut changed,
-        output,
-    )
-}
-
-// Reads a record, forward or backward, by the table of that direction, which is lent (decisions D11 and D12).
-pub fn read_by(
-    words: &[u16],
-    maps: &[u16],
-    backward: bool,
-    table: &[u16],
-    output: &mut [u8],
-) -> Read
-    requires { table.now ≡ readings backward }
+) -> Result<Figures, Refusal>
     ensures answer { told_read result ≡ read_answer backward words.now maps.now (length output.old) }
     ensures output { output.new ≡ output_after (told_read result) (read_data backward words.now maps.now) output.old }
     ensures terms { Terms (Call.read (at6250 backward words.now maps.now)) (told_read result) output.old output.new }
 {
+    let reading = Reading::new(words, maps, backward).ok_or(Reason::Length)?;
     let groups = maps.len();
-    if !lengths_suit(words.len(), groups) {
-        return refused(Reason::Length, 0);
-    }
     if output.len() < groups * Code6250::BYTES - 1 {
-        return refused(Reason::Space, 0);
+        return Err(Reason::Space.into());
     }
-    read_sized(words, maps, backward, table, output)
+    if groups <= SHORT {
+        read_within::<SHORT, SHORT_BYTES>(&reading, output)
+    } else {
+        read_within::<LONG, LONG_BYTES>(&reading, output)
+    }
 }

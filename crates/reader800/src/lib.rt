@@ -4,5 +4,5 @@
 
 mod reader;
 
-pub use reader::{read_backward, read_forward, read_record, store};
-pub use scan800::{Figures, Read};
+pub use reader::{read_record, store};
+pub use scan800::{Figures, Passed, Reading};

@@ -11,10 +11,10 @@ use native.Mathlib.Omega.{arith}
 use borrow.Author.Tests.{lt-ltb}
 use lib.Bits.{bit_or, or_add_and, and_le_l, and_le_r}
 use lib.Dec.{ltb}
-use lib.ListN.{length, get_or}
+use lib.ListN.{get_or}
 use lib.Pow.{pow_mono, shl_exact}
 use Rattle.indexed.specs.List.{tabulate}
-use Rattle.indexed.proofs.Tabulate.{length_tabulate, get_d_tabulate, tabulate_same}
+use Rattle.indexed.proofs.Tabulate.{get_d_tabulate, tabulate_same}
 use Rattle.register.specs.Bit.{of_bits}
 use Rattle.register.specs.Xor.{◌⊕◌}
 use Rattle.register.proofs.Ones.{tabulated_lt}
@@ -37,12 +37,8 @@ pub words_at : (backward : Bool) (words : List ℕ) (at : ℕ) → tabulate 9 (w
 unfolding words_from
 words_at backward words at = tabulate_same 9 _ _ (λ k h. ap (forward_word backward) (sym (get_or_numbers_at words at k h)))
 
--- a word of ten bits in the table of readings: its place, and the value and the mark that stand there
+-- a word of ten bits in the table of readings: the value and the mark that stand there
 module _ (backward : Bool) {table : List ℕ} (is-table : table ≡ readings backward) {word : ℕ} (h : word < 1024) where
-  pub in_table : word < length table
-  unfolding readings
-  in_table = omega (arith, ap length is-table, length_tabulate 1024 (read_of backward))
-
   at_word : get_or table word 0 ≡ read_of backward word
   at_word = rw is-table (get_or_readings backward word h)
 

@@ -3,10 +3,11 @@
 
 #![tactic(auto)]
 
-mod group;
+mod reading;
 mod received;
 mod stray;
 mod walker;
 
+pub use reading::Reading;
 pub use stray::first_stray;
-pub use walker::{first_group, judge_at, next_group};
+pub use walker::GroupWalker;

@@ -1,69 +1,55 @@
-// A reading walks the lent words group by group, in tape order (document 01, "The 6250 record"). The walker
-// is thin: it is taken apart, and the functions on the slice and the index do the work.
+// A reading walks the lent words group by group, in tape order (document 01, "The 6250 record"), and each group is received and
+// judged.
 ghost use Rattle.std.specs.Prelude.{true, ◌≡◌, ◌+◌, ◌<◌, length};
-ghost use Rattle.group_code.specs.Word.{readings};
 ghost use Rattle.judge6250.specs.Told.{told_judged, told_changed};
 ghost use Rattle.rectangular.specs.Constants.{most_groups};
 ghost use Rattle.record6250.specs.Fits.{Passes};
 ghost use Rattle.record6250.specs.Group.{is_corrected};
 ghost use Rattle.record6250.specs.Read.{judgement, changed_tracks};
 
-use crate::group::judge_group;
-use judge6250::judge::Judged;
+use crate::received::receive;
+use judge6250::errors::Unfit;
+use judge6250::judge::{Correction, judge};
+use rectangular::Code6250;
+use slices::turned_place;
 
 // The lent words, and the group at which the walk is.
-#[derive(Drop)]
-pub(crate) struct GroupWalker<'a> {
+#[derive(Clone, Copy)]
+pub struct GroupWalker<'a> {
     pub words: &'a [u16],
     pub group: usize,
 }
 
-pub(crate) fn at_group<'a>(words: &'a [u16], group: usize) -> GroupWalker<'a>
-    ensures { (result.words ≡ words.entry) × (result.group ≡ group) }
-{
-    GroupWalker { words, group }
-}
-
-// The walk goes on by one group.
-fn moved_on<'a>(walker: GroupWalker<'a>) -> GroupWalker<'a>
-    requires { walker.group < most_groups }
-    ensures { (result.words ≡ walker.entry.words) × (result.group ≡ walker.entry.group + 1) }
-{
-    GroupWalker {
-        words: walker.words,
-        group: walker.group + 1,
+impl<'a> GroupWalker<'a> {
+    // The walk begins at the first group.
+    pub fn new(words: &'a [u16]) -> GroupWalker<'a>
+        ensures { (result.words ≡ words.entry) × (result.group ≡ 0) }
+    {
+        GroupWalker { words, group: 0 }
     }
-}
 
-// The walker is taken apart, and its group is judged.
-fn judged<'a>(walker: GroupWalker<'a>, maps: &[u16], backward: bool, table: &[u16]) -> Judged
-    requires { Passes backward walker.words.now maps.now × (walker.group < length maps.now) × (table.now ≡ readings backward) }
-    ensures told { told_judged result ≡ judgement backward walker.entry.words.now maps.now walker.entry.group }
-    ensures changed { is_corrected (told_judged result) ≡ true → told_changed result ≡ changed_tracks backward walker.entry.words.now maps.now walker.entry.group }
-{
-    judge_group(walker.words, walker.group, maps, backward, table)
-}
+    // Judges the group at which the walk is, by the maps and the direction of its reading.
+    pub fn judged(&self, maps: &[u16], backward: bool) -> Result<Correction, Unfit>
+        requires { Passes backward self.now.words.now maps.now × (self.now.group < length maps.now) }
+        ensures told { told_judged result ≡ judgement backward self.now.words.now maps.now self.now.group }
+        ensures changed { is_corrected (told_judged result) ≡ true → told_changed result ≡ changed_tracks backward self.now.words.now maps.now self.now.group }
+    {
+        let place = turned_place(backward, maps.len(), self.group);
+        let received = receive(self.words, place * Code6250::NUMBERS, backward);
+        let illegal = received.illegal;
+        let pointed = maps[place] | illegal;
+        let right = judge(received.group, pointed, illegal == 0)?;
+        Ok(Correction {
+            group: right.group,
+            changed: right.changed | illegal,
+        })
+    }
 
-// The group at which the walk begins.
-pub fn first_group(words: &[u16]) -> usize
-    ensures { result ≡ 0 }
-{
-    at_group(words, 0).group
-}
-
-// Judges group g, at which the walk is.
-pub fn judge_at(words: &[u16], g: usize, maps: &[u16], backward: bool, table: &[u16]) -> Judged
-    requires { Passes backward words.now maps.now × (g < length maps.now) × (table.now ≡ readings backward) }
-    ensures told { told_judged result ≡ judgement backward words.now maps.now g }
-    ensures changed { is_corrected (told_judged result) ≡ true → told_changed result ≡ changed_tracks backward words.now maps.now g }
-{
-    judged(at_group(words, g), maps, backward, table)
-}
-
-// The group after g.
-pub fn next_group(words: &[u16], g: usize) -> usize
-    requires { g < most_groups }
-    ensures { result ≡ g + 1 }
-{
-    moved_on(at_group(words, g)).group
+    // The walk goes on by one group.
+    pub fn advance(&mut self)
+        requires { self.old.group < most_groups }
+        ensures { (self.new.words ≡ self.old.words) × (self.new.group ≡ self.old.group + 1) }
+    {
+        self.group += 1;
+    }
 }

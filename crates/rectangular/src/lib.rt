@@ -7,7 +7,7 @@ ghost use Rattle.std.specs.Prelude.{◌≡◌};
 ghost use Rattle.rectangular.specs.Constants.{times_t, times_power};
 
 // The code's register (document 000, figure 7), which holds one byte.
-#[derive(Drop)]
+#[derive(Clone, Copy, PartialEq, Eq)]
 pub struct Code6250 {
     pub register: u8,
 }
@@ -62,10 +62,8 @@ impl Code6250 {
         ensures { result.register ≡ times_power power self.register }
     {
         let mut code = self;
-        let mut left = power % Code6250::EXPONENT;
-        while left > 0 {
+        for _ in 0..power % Code6250::EXPONENT {
             code = code.shifted();
-            left -= 1;
         }
         code
     }

@@ -10,5 +10,4 @@ pub mod Exponent
 pub mod Parity
 pub mod Held
 pub mod Matrix
-pub mod Flipped
 pub mod Counts

@@ -5,22 +5,19 @@
 #![tactic(auto)]
 
 ghost use Rattle.std.specs.Prelude.{◌≡◌};
-ghost use Rattle.indexed.specs.Rule.{value_at};
 ghost use Rattle.register.specs.Matrix.{product};
 
 // A matrix of eight columns times a byte. Where time matters a table takes its place.
 pub fn multiplied(columns: [u64; 8], byte: u8) -> u64
-    ensures { result ≡ value_at (product columns) byte }
+    ensures { result ≡ product columns byte }
 {
     let mut sum: u64 = 0;
     let mut left = byte;
-    let mut k = 0;
-    while k < 8 {
+    for column in &columns {
         if left % 2 == 1 {
-            sum = sum ^ columns[k];
+            sum ^= *column;
         }
-        left = left / 2;
-        k += 1;
+        left /= 2;
     }
     sum
 }

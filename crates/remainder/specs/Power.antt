@@ -8,10 +8,6 @@ use Rattle.std.specs.Prelude.{List, [], ◌∷◌, ℕ}
 abbrev pub eighth_power : List ℕ
 eighth_power = 57 ∷ 114 ∷ 228 ∷ 241 ∷ 219 ∷ 143 ∷ 39 ∷ 78 ∷ []
 
--- T^12
-abbrev pub twelfth_power : List ℕ
-twelfth_power = 219 ∷ 143 ∷ 39 ∷ 78 ∷ 156 ∷ 1 ∷ 2 ∷ 4 ∷ []
-
 -- T^-7, which is T^10
 abbrev pub seventh_inverse : List ℕ
 seventh_inverse = 228 ∷ 241 ∷ 219 ∷ 143 ∷ 39 ∷ 78 ∷ 156 ∷ 1 ∷ []

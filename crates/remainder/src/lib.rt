@@ -1,225 +1,53 @@
 // Remainders modulo g = 1 + X^3 + X^4 + X^5 + X^8, the polynomial of the 6250 code (document 000, "Implementation
 // of ORC"): what the bits leave that a power of T moves out of a byte. The powers of a group's eight tracks move
-// seven bits at most. A `match` on a number is a table in read-only memory, where a constant array would be
-// built at each use. No caller has more bits than its table: for other bytes the code's register is shifted.
+// seven bits at most. Each is one look-up in read-only memory. They are two functions, since the tables, the numbers that they take and what
+// they promise differ.
 
 #![tactic(auto)]
 
 ghost use Rattle.std.specs.Prelude.{◌≡◌, ◌<◌};
-ghost use Rattle.indexed.specs.Rule.{value_at};
 ghost use Rattle.register.specs.Matrix.{product};
-ghost use Rattle.remainder.specs.Power.{eighth_power, twelfth_power, seventh_inverse};
+ghost use Rattle.remainder.specs.Power.{eighth_power, seventh_inverse};
 
-use rectangular::Code6250;
+// T^8 times each number of seven bits.
+static REDUCED: [u8; 128] = [
+    0, 57, 114, 75, 228, 221, 150, 175, 241, 200, 131, 186, 21, 44, 103, 94, 219, 226, 169, 144,
+    63, 6, 77, 116, 42, 19, 88, 97, 206, 247, 188, 133, 143, 182, 253, 196, 107, 82, 25, 32, 126,
+    71, 12, 53, 154, 163, 232, 209, 84, 109, 38, 31, 176, 137, 194, 251, 165, 156, 215, 238, 65,
+    120, 51, 10, 39, 30, 85, 108, 195, 250, 177, 136, 214, 239, 164, 157, 50, 11, 64, 121, 252,
+    197, 142, 183, 24, 33, 106, 83, 13, 52, 127, 70, 233, 208, 155, 162, 168, 145, 218, 227, 76,
+    117, 62, 7, 89, 96, 43, 18, 189, 132, 207, 246, 115, 74, 1, 56, 151, 174, 229, 220, 130, 187,
+    240, 201, 102, 95, 20, 45,
+];
 
-// T^8 times a byte.
-fn eighth_power(byte: u8) -> u64
-    ensures { result ≡ value_at (product eighth_power) byte }
-{
-    Code6250 { register: byte }.powered(8).register as u64
-}
+// T^-7 times each byte.
+static RESTORED: [u8; 256] = [
+    0, 228, 241, 21, 219, 63, 42, 206, 143, 107, 126, 154, 84, 176, 165, 65, 39, 195, 214, 50, 252,
+    24, 13, 233, 168, 76, 89, 189, 115, 151, 130, 102, 78, 170, 191, 91, 149, 113, 100, 128, 193,
+    37, 48, 212, 26, 254, 235, 15, 105, 141, 152, 124, 178, 86, 67, 167, 230, 2, 23, 243, 61, 217,
+    204, 40, 156, 120, 109, 137, 71, 163, 182, 82, 19, 247, 226, 6, 200, 44, 57, 221, 187, 95, 74,
+    174, 96, 132, 145, 117, 52, 208, 197, 33, 239, 11, 30, 250, 210, 54, 35, 199, 9, 237, 248, 28,
+    93, 185, 172, 72, 134, 98, 119, 147, 245, 17, 4, 224, 46, 202, 223, 59, 122, 158, 139, 111,
+    161, 69, 80, 180, 1, 229, 240, 20, 218, 62, 43, 207, 142, 106, 127, 155, 85, 177, 164, 64, 38,
+    194, 215, 51, 253, 25, 12, 232, 169, 77, 88, 188, 114, 150, 131, 103, 79, 171, 190, 90, 148,
+    112, 101, 129, 192, 36, 49, 213, 27, 255, 234, 14, 104, 140, 153, 125, 179, 87, 66, 166, 231,
+    3, 22, 242, 60, 216, 205, 41, 157, 121, 108, 136, 70, 162, 183, 83, 18, 246, 227, 7, 201, 45,
+    56, 220, 186, 94, 75, 175, 97, 133, 144, 116, 53, 209, 196, 32, 238, 10, 31, 251, 211, 55, 34,
+    198, 8, 236, 249, 29, 92, 184, 173, 73, 135, 99, 118, 146, 244, 16, 5, 225, 47, 203, 222, 58,
+    123, 159, 138, 110, 160, 68, 81, 181,
+];
 
-// T^12 times a byte.
-fn twelfth_power(byte: u8) -> u64
-    ensures { result ≡ value_at (product twelfth_power) byte }
-{
-    Code6250 { register: byte }.powered(12).register as u64
-}
-
-// T^-7 is T^10: the power lacks seven of the exponent.
-const SEVENTH_BACK: usize = Code6250::EXPONENT - 7;
-
-// T^-7 times a byte.
-fn seventh_inverse(byte: u8) -> u64
-    ensures { result ≡ value_at (product seventh_inverse) byte }
-{
-    Code6250 { register: byte }.powered(SEVENTH_BACK).register as u64
-}
-
-// T^8 times four bits.
-fn low_reduced(low: u8) -> u64
-    ensures { result ≡ value_at (product eighth_power) low }
-{
-    match low {
-        0 => 0,
-        1 => 57,
-        2 => 114,
-        3 => 75,
-        4 => 228,
-        5 => 221,
-        6 => 150,
-        7 => 175,
-        8 => 241,
-        9 => 200,
-        10 => 131,
-        11 => 186,
-        12 => 21,
-        13 => 44,
-        14 => 103,
-        15 => 94,
-        _ => eighth_power(low),
-    }
-}
-
-// T^12 times three bits.
-fn high_reduced(high: u8) -> u64
-    ensures { result ≡ value_at (product twelfth_power) high }
-{
-    match high {
-        0 => 0,
-        1 => 219,
-        2 => 143,
-        3 => 84,
-        4 => 39,
-        5 => 252,
-        6 => 168,
-        7 => 115,
-        _ => twelfth_power(high),
-    }
-}
-
-// What seven bits leave that stand above a byte: T^8 times the number that they are. By parts, since a look-up of 16
-// entries is compiled into every caller, and one of 128 only into a single one (decision D11).
+// What seven bits leave that stand above a byte: T^8 times the number that they are.
 pub fn reduced(high: u8) -> u64
     requires { high < 128 }
-    ensures { result ≡ value_at (product eighth_power) high }
+    ensures { result ≡ product eighth_power high }
 {
-    low_reduced(high % 16) ^ high_reduced(high / 16 % 8)
+    REDUCED[high as usize] as u64
 }
 
 // What seven bits leave that stand below a byte: T^-7 times the number that they are.
 pub fn restored(low: u8) -> u64
-    ensures { result ≡ value_at (product seventh_inverse) low }
+    ensures { result ≡ product seventh_inverse low }
 {
-    match low {
-        0 => 0,
-        1 => 228,
-        2 => 241,
-        3 => 21,
-        4 => 219,
-        5 => 63,
-        6 => 42,
-        7 => 206,
-        8 => 143,
-        9 => 107,
-        10 => 126,
-        11 => 154,
-        12 => 84,
-        13 => 176,
-        14 => 165,
-        15 => 65,
-        16 => 39,
-        17 => 195,
-        18 => 214,
-        19 => 50,
-        20 => 252,
-        21 => 24,
-        22 => 13,
-        23 => 233,
-        24 => 168,
-        25 => 76,
-        26 => 89,
-        27 => 189,
-        28 => 115,
-        29 => 151,
-        30 => 130,
-        31 => 102,
-        32 => 78,
-        33 => 170,
-        34 => 191,
-        35 => 91,
-        36 => 149,
-        37 => 113,
-        38 => 100,
-        39 => 128,
-        40 => 193,
-        41 => 37,
-        42 => 48,
-        43 => 212,
-        44 => 26,
-        45 => 254,
-        46 => 235,
-        47 => 15,
-        48 => 105,
-        49 => 141,
-        50 => 152,
-        51 => 124,
-        52 => 178,
-        53 => 86,
-        54 => 67,
-        55 => 167,
-        56 => 230,
-        57 => 2,
-        58 => 23,
-        59 => 243,
-        60 => 61,
-        61 => 217,
-        62 => 204,
-        63 => 40,
-        64 => 156,
-        65 => 120,
-        66 => 109,
-        67 => 137,
-        68 => 71,
-        69 => 163,
-        70 => 182,
-        71 => 82,
-        72 => 19,
-        73 => 247,
-        74 => 226,
-        75 => 6,
-        76 => 200,
-        77 => 44,
-        78 => 57,
-        79 => 221,
-        80 => 187,
-        81 => 95,
-        82 => 74,
-        83 => 174,
-        84 => 96,
-        85 => 132,
-        86 => 145,
-        87 => 117,
-        88 => 52,
-        89 => 208,
-        90 => 197,
-        91 => 33,
-        92 => 239,
-        93 => 11,
-        94 => 30,
-        95 => 250,
-        96 => 210,
-        97 => 54,
-        98 => 35,
-        99 => 199,
-        100 => 9,
-        101 => 237,
-        102 => 248,
-        103 => 28,
-        104 => 93,
-        105 => 185,
-        106 => 172,
-        107 => 72,
-        108 => 134,
-        109 => 98,
-        110 => 119,
-        111 => 147,
-        112 => 245,
-        113 => 17,
-        114 => 4,
-        115 => 224,
-        116 => 46,
-        117 => 202,
-        118 => 223,
-        119 => 59,
-        120 => 122,
-        121 => 158,
-        122 => 139,
-        123 => 111,
-        124 => 161,
-        125 => 69,
-        126 => 80,
-        127 => 180,
-        _ => seventh_inverse(low),
-    }
+    RESTORED[low as usize] as u64
 }

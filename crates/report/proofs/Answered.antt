@@ -12,15 +12,13 @@ use Rattle.sense_log.proofs.Answer.{back_delivered}
 use Rattle.sense_log.proofs.Back.{length_maps_of}
 use Rattle.sense_log.proofs.Marks.{most_marks_lem}
 use Rattle.log_reader.specs.Told.{told_back}
-use Rattle.log_reader.specs.declared.ReadBack.{ReadBack}
-use Rattle.log_reader.specs.declared.ReadBack.TheVariants.{Delivered, Refused}
+use Rattle.std.specs.Prelude.{Option, None, Result, Ok, Err}
 use Rattle.page.specs.Page.{Printed}
 use Rattle.track_counts.specs.Counts.{counts_told}
 use Rattle.track_counts.specs.declared.Counts.{Counts}
-use Rattle.sense_log.specs.Back.{maps_of, read_log_answer}
+use Rattle.sense_log.specs.Back.{maps_of}
 use Rattle.report.specs.Made.{LogPut}
 use Rattle.report.specs.Report.{maps_lent, most_marks, answer_of, marks_of}
-use Rattle.report.specs.declared.line.Line.TheVariants.{Last}
 
 module _ (groups : ℕ) (log : List ℕ) where
   -- a delivery has space for its maps, and its marks are few
@@ -31,20 +29,17 @@ module _ (groups : ℕ) (log : List ℕ) where
     pub marks_few : marks_of groups log ≤ most_marks
     marks_few = most_marks_lem groups log maps_lent figures is
 
-  module _ (space : ℕ) (r : ReadBack) (told : told_back r ≡ read_log_answer groups log space) (lent : space ≡ maps_lent) where
-    answered : told_back r ≡ answer_of groups log
-    answered = told ∙ ap (read_log_answer groups log) lent
-
-    pub is_delivered : (marks : Counts) → r ≡ Delivered marks → answer_of groups log ≡ delivered (counts_told marks)
-    is_delivered marks e = sym answered ∙ ap told_back e
+  module _ (r : Result Counts Refusal) (told : told_back r ≡ answer_of groups log) where
+    pub is_delivered : (marks : Counts) → r ≡ Ok marks → answer_of groups log ≡ delivered (counts_told marks)
+    is_delivered marks e = sym told ∙ ap told_back e
 
     -- the line of a refusal is the last
-    pub refusal_put : (refusal : Refusal) → r ≡ Refused refusal → (total held held' : ℕ) (page page' : List ℕ)
-        → Printed (refusal_text (number_of refusal.reason) refusal.place) page held page' held' → LogPut groups log total page held page' (Last held')
-    refusal_put refusal e total held held' page page' put = (number_of refusal.reason, refusal.place, sym answered ∙ ap told_back e, put)
+    pub refusal_put : (refusal : Refusal) → r ≡ Err refusal → (total : ℕ) (page page' : Option (List ℕ))
+        → Printed (refusal_text (number_of refusal.reason) refusal.place) page page' → LogPut groups log total page page' None
+    refusal_put refusal e total page page' put = (number_of refusal.reason, refusal.place, sym told ∙ ap told_back e, put)
 
     -- the maps of the groups stand at the front
-    pub maps_in_front : (marks : Counts) → r ≡ Delivered marks → (before after : List ℕ) → after ≡ output_after (told_back r) (maps_of groups log) before → take groups after ≡ maps_of groups log
+    pub maps_in_front : (marks : Counts) → r ≡ Ok marks → (before after : List ℕ) → after ≡ output_after (told_back r) (maps_of groups log) before → take groups after ≡ maps_of groups log
     unfolding output_after
     maps_in_front marks e before after stored =
         ap (take groups) (stored ∙ ap (λ (a : Answer). output_after a (maps_of groups log) before) (ap told_back e))

@@ -1,45 +1,48 @@
 -- How far the report is once so many logs were read: their lines were handed over or are on the page, and nothing else.
 -- Assumes nothing.
-use Prim.Native.Nat.{ℕ, suc, ◌+◌, ◌-◌, ◌*◌, ◌^◌, ◌≤◌, ◌<◌}
+use Prim.Native.Nat.{ℕ, suc, ◌+◌, ◌-◌, ◌*◌, ◌≤◌}
 use mathlib.Core.Path.{◌≡◌, refl, sym, ap, subst, ◌∙◌}
 use mathlib.Core.List.{List, [], ◌++◌, append_assoc}
+use mathlib.Core.Logic.{inl, inr}
 use native.Mathlib.Nat.{add_assoc, zero-add}
 use native.Mathlib.Omega.{arith}
-use borrow.Author.Tests.{le-leb}
 use lib.ListN.{length, drop, length-append}
 use lib.Seq.{drop-append-le, drop-length}
-use Rattle.page.specs.Page.{page_size, Printed}
-use Rattle.page.proofs.Printed.{printed_none, printed_both}
-use Rattle.report.specs.Made.{Lines, MarksPut, LastPut, OnPage, Begun, ReportedAs, Reported}
+use Rattle.std.specs.Prelude.{Option, None, Some, Result, Ok, Err}
+use Rattle.std.specs.Result.{IsErrAnd}
+use Rattle.page.specs.Page.{page_size, held_count, Printed}
+use Rattle.page.proofs.Printed.{after_fits, after_none, printed_both}
+use Rattle.report.specs.Made.{Lines, MarksPut, LastPut, OnPage, Begun, Bounded, RoomMade, Reported}
+use Rattle.transfer.specs.declared.Failure.{Failure}
+use Rattle.report.specs.declared.part.Output.{Output}
+use Rattle.report.specs.declared.whole.Stop.{Stop}
+use Rattle.report.specs.declared.whole.Stop.TheVariants.{Unread as Stopped}
 use Rattle.report.specs.Report.{most_marks, most_line, count_text, report_from, report_text}
-use Rattle.report.specs.declared.whole.End.{End}
-use Rattle.report.specs.declared.whole.Report.{Report}
 use Rattle.report.proofs.Short.{count_short}
 
-pub record State (logs total handed : ℕ) (page : List ℕ) (held : ℕ) : Type 0 where
-  pub begun : Begun logs total handed page held
+pub record State (logs total handed : ℕ) (page : Option (List ℕ)) : Type 0 where
+  pub begun : Begun logs total handed page
   -- a log has one byte at least, so many marks at most, and a line of so many bytes at most
   pub bytes : logs ≤ length begun.input
   pub marks : total ≤ most_marks * logs
   pub short : length begun.lines ≤ 22 * logs
 
 -- what was handed over and what is held is of that length
-pub state_bound : {logs total handed held : ℕ} {page : List ℕ} → State logs total handed page held → handed + held ≤ 22 * logs
+pub state_bound : {logs total handed : ℕ} {page : Option (List ℕ)} → State logs total handed page → handed + held_count page ≤ 22 * logs
 state_bound s = omega (arith, s.begun.text.all, s.short)
 
-pub state_as : {logs total handed handed' held held' : ℕ} {page page' : List ℕ} → State logs total handed page held → handed' ≡ handed → page' ≡ page → held' ≡ held
-    → State logs total handed' page' held'
-state_as s e f g = rw (e, f, g) s
+pub state_as : {logs total handed handed' : ℕ} {page page' : Option (List ℕ)} → State logs total handed page → handed' ≡ handed → page' ≡ page → State logs total handed' page'
+state_as s e f = rw (e, f) s
 
 -- ---- the first lines
 
-pub state_none : (page : List ℕ) → State 0 0 0 page 0
-state_none page = record {
+pub state_none : State 0 0 0 (Some [])
+state_none = record {
   begun = record {
     input = [];
     lines = [];
     are = λ more rest. ap (λ (n : ℕ). report_from n 0 rest) (zero-add more);
-    text = record { all = refl; before = page; put = printed_none page 0 };
+    text = record { all = refl; put = sym (after_none (Some [])) };
   };
   bytes = omega arith;
   marks = omega arith;
@@ -48,51 +51,43 @@ state_none page = record {
 
 -- ---- a page is handed over
 
-pub state_passed : (logs total handed held : ℕ) (page page' : List ℕ) → State logs total handed page held → State logs total (handed + held) page' 0
-state_passed logs total handed held page page' s =
+pub state_passed : (logs total handed : ℕ) (page : Option (List ℕ)) → State logs total handed page → State logs total (handed + held_count page) (Some [])
+state_passed logs total handed page s =
     let lines = s.begun.lines in
     let all = s.begun.text.all in
-    let none : drop (handed + held) lines ≡ [] = ap (λ (n : ℕ). drop n lines) all ∙ drop-length lines in
+    let none : drop (handed + held_count page) lines ≡ [] = ap (λ (n : ℕ). drop n lines) all ∙ drop-length lines in
     record {
       begun = record {
         input = s.begun.input;
         lines = lines;
         are = s.begun.are;
-        text = record { all = omega arith; before = page'; put = rw none (printed_none page' 0) };
+        text = record { all = omega arith; put = rw none (sym (after_none (Some []))) };
       };
       bytes = s.bytes;
       marks = s.marks;
       short = s.short;
     }
 
--- ---- there is room for a line
+-- ---- there is room for a line, as there was, or since a page was handed over
 
-abbrev pub Room : ℕ → ℕ → ℕ → List ℕ → ℕ → Type 0
-Room logs total handed page held = State logs total handed page held × (held ≤ 65472)
-
-module _ {logs total handed held handed' held' : ℕ} {page page' : List ℕ} (s : State logs total handed page held) where
-  -- as there was
-  pub room_left : held ≤ 65472 → handed' ≡ handed → page' ≡ page → held' ≡ held → Room logs total handed' page' held'
-  room_left h e f g = (state_as s e f g, omega (arith, g, h))
-
-  -- or since a page was handed over
-  pub room_made : handed' ≡ handed + held → held' ≡ 0 → Room logs total handed' page' held'
-  room_made e g = (state_as (state_passed logs total handed held page page' s) e refl g, omega (arith, g))
+pub state_roomy : (logs total : ℕ) (o o' : Output) → State logs total o.handed o.page → RoomMade o o' (Ok tt) → State logs total o'.handed o'.page
+state_roomy logs total o o' s room =
+    elim room.1 [
+      | inl same ↦ rw (same.0, same.1) s
+      | inr passed ↦ rw (passed.0, passed.1) (state_passed logs total o.handed o.page s)
+    ]
 
 -- ---- one text more
 
-module _ (lines text : List ℕ) (handed held held' : ℕ) (page page' : List ℕ) (room : held + length text ≤ page_size) where
-  held_more : Printed text page held page' held' → held' ≡ held + length text
-  held_more put = put.count ∙ rw (le-leb (held + length text) page_size room) refl
+module _ (lines text : List ℕ) (handed : ℕ) where
+  held_more : (page page' : Option (List ℕ)) → held_count page + length text ≤ page_size → Printed text page page' → held_count page' ≡ held_count page + length text
+  held_more None page' room put = absurd (omega arith)
+  held_more (Some held) page' room put = ap held_count (put ∙ after_fits held text (omega arith)) ∙ length-append held text
 
-  page_more : OnPage lines handed page held → Printed text page held page' held' → OnPage (lines ++ text) handed page' held'
-  page_more on put =
+  page_more : (page page' : Option (List ℕ)) → held_count page + length text ≤ page_size → OnPage lines handed page → Printed text page page' → OnPage (lines ++ text) handed page'
+  page_more page page' room on put =
       let behind = drop-append-le handed lines text (omega (arith, on.all)) in
-      record {
-        all = omega (arith, on.all, held_more put, length-append lines text);
-        before = on.before;
-        put = rw behind (printed_both on.put put);
-      }
+      record { all = omega (arith, on.all, held_more page page' room put, length-append lines text); put = rw behind (printed_both _ _ _ on.put put) }
 
 -- ---- one log more
 
@@ -105,8 +100,8 @@ lines_more logs total total' total'' input lines next line first second more res
     ∙ ap (λ (l : List ℕ). lines ++ l) (second more rest)
     ∙ sym (append_assoc lines line (report_from more total'' rest))
 
-module _ (logs total handed held held' : ℕ) (page page' : List ℕ) (s : State logs total handed page held) (room : held + most_line ≤ page_size) where
-  pub state_more : (total' : ℕ) → MarksPut total page held page' held' total' → State (logs + 1) total' handed page' held'
+module _ (logs total handed : ℕ) (page page' : Option (List ℕ)) (s : State logs total handed page) (room : held_count page + most_line ≤ page_size) where
+  pub state_more : (total' : ℕ) → MarksPut total page page' total' → State (logs + 1) total' handed page'
   state_more total' m =
       let b = s.begun in
       let line : List ℕ = count_text m.count in
@@ -116,7 +111,7 @@ module _ (logs total handed held held' : ℕ) (page page' : List ℕ) (s : State
           input = b.input ++ m.next;
           lines = b.lines ++ line;
           are = lines_more logs 0 total total' b.input b.lines m.next line b.are m.lines;
-          text = page_more b.lines line handed held held' page page' (omega (arith, few)) b.text m.put;
+          text = page_more b.lines line handed page page' (omega (arith, few)) b.text m.put;
         };
         bytes = omega (arith, s.bytes, m.some, length-append b.input m.next);
         marks = omega (arith, s.marks, m.sum, m.few);
@@ -125,7 +120,7 @@ module _ (logs total handed held held' : ℕ) (page page' : List ℕ) (s : State
 
   -- ---- the last line
 
-  module _ (l : LastPut total page held page' held') where
+  module _ (l : LastPut total page page') where
     abbrev input : List ℕ
     input = s.begun.input ++ l.next
 
@@ -137,17 +132,18 @@ module _ (logs total handed held held' : ℕ) (page page' : List ℕ) (s : State
         ∙ s.begun.are (suc left) l.next
         ∙ ap (λ (x : List ℕ). s.begun.lines ++ x) (l.last left))
 
-    last_text : OnPage (s.begun.lines ++ l.line) handed page' held'
-    last_text = page_more s.begun.lines l.line handed held held' page page' (omega (arith, l.short)) s.begun.text l.put
+    last_text : OnPage (s.begun.lines ++ l.line) handed page'
+    last_text = page_more s.begun.lines l.line handed page page' (omega (arith, l.short)) s.begun.text l.put
 
-    pub state_last : (input : List ℕ) × OnPage (report_text input) handed page' held'
-    state_last = (input, subst (λ (text : List ℕ). OnPage text handed page' held') report_is last_text)
+    pub state_last : (input : List ℕ) × OnPage (report_text input) handed page'
+    state_last = (input, subst (λ (text : List ℕ). OnPage text handed page') report_is last_text)
 
-    pub last_bound : handed + held' ≤ 22 * logs + most_line
+    pub last_bound : handed + held_count page' ≤ 22 * logs + most_line
     last_bound = omega (arith, last_text.all, s.short, l.short, length-append s.begun.lines l.line)
 
 -- ---- how it ends
 
-pub reported : (page : List ℕ) (r : Report) (end : End) (held handed : ℕ) → (r.end ≡ end) × (r.held ≡ held) × (r.handed ≡ handed) → ReportedAs end held handed page → handed + held < 2 ^ 64
-    → Reported page r × (r.handed + r.held < 2 ^ 64)
-reported page r end held handed is made bound = rw (is.0, is.1, is.2) (made, bound)
+-- a read failed, behind the lines of the logs before
+pub stopped : (logs total : ℕ) (o : Output) (failure : Failure) (r : Result (Unit {0}) Stop) → State logs total o.handed o.page → Bounded o → IsErrAnd r (λ stop. stop ≡ Stopped failure) → Reported o r
+stopped logs total o failure (Ok done) s bound is = absurd is
+stopped logs total o failure (Err stop) s bound is = rw is (bound, (logs, total, s.begun))

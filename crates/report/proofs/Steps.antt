@@ -14,8 +14,7 @@ use Rattle.sense_log.specs.Pair.{pair_at}
 use Rattle.page.specs.Page.{Printed}
 use Rattle.report.specs.Made.{LogPut, Lines, LastPut, NextPut}
 use Rattle.report.specs.Report.{heading_length, answer_of, marks_of, count_text, cut_text, log_text, groups_at, length_at, log_at, report_from}
-use Rattle.report.specs.declared.line.Line.{Line}
-use Rattle.report.specs.declared.line.Line.TheVariants.{Marks, Last, Unread}
+use Rattle.std.specs.Prelude.{Option, None, Some, Ok}
 use Rattle.report.proofs.Answered.{marks_few}
 use Rattle.report.proofs.Came.{pair_in_front}
 use Rattle.report.proofs.Short.{count_short, refusal_short}
@@ -68,32 +67,31 @@ module _ (heading log : List ℕ) (whole : length heading ≡ heading_length) (a
       ∙ next_log [] more total
       ∙ ap (λ (a : Answer). log_text a (marks_of groups log) (report_from more (total + marks_of groups log) [])) is
 
-  pub log_put : (total held : ℕ) (page page' : List ℕ) (r : Line) → LogPut groups log total page held page' r → NextPut total page held page' r
-  log_put total held page page' (Marks s) put = record {
+  pub log_put : (total : ℕ) (page page' : Option (List ℕ)) (r : Option ℕ) → LogPut groups log total page page' r → NextPut total page page' (Ok r)
+  log_put total page page' (Some total') put = record {
     next = heading ++ log;
     some = omega (arith, length-append heading log);
     count = marks_of groups log;
     few = marks_few groups log put.0.0 put.0.1;
     sum = put.1;
-    lines = marks_lines total s.total put.0.0 put.0.1 put.1;
+    lines = marks_lines total total' put.0.0 put.0.1 put.1;
     put = put.2;
   }
-  log_put total held page page' (Last end) put = record {
+  log_put total page page' None put = record {
     next = heading ++ log;
     line = refusal_text put.0 put.1;
     short = refusal_short put.0 put.1;
     last = refused_last put.0 put.1 total put.2;
     put = put.3;
   }
-  log_put total held page page' (Unread number) put = absurd put
 
-module _ (total held held' : ℕ) (page page' : List ℕ) where
+module _ (total : ℕ) (page page' : Option (List ℕ)) where
   -- nothing is left
   total_last : (more : ℕ) → report_from (suc more) total [] ≡ count_text total
   unfolding report_from
   total_last more = refl
 
-  pub total_put : Printed (count_text total) page held page' held' → LastPut total page held page' held'
+  pub total_put : Printed (count_text total) page page' → LastPut total page page'
   total_put put = record { next = []; line = count_text total; short = omega (arith, count_short total); last = total_last; put = put }
 
   -- what is left is cut
@@ -102,5 +100,5 @@ module _ (total held held' : ℕ) (page page' : List ℕ) where
     unfolding report_from
     cut_last more = rw (ne_eqb (length part) 0 (λ none. omega arith), lt-ltb (length part) (heading_length + length_at part) short) refl
 
-    pub cut_put : Printed cut_text page held page' held' → LastPut total page held page' held'
+    pub cut_put : Printed cut_text page page' → LastPut total page page'
     cut_put put = record { next = part; line = cut_text; short = refusal_short 9 0; last = cut_last; put = put }

@@ -1,10 +1,11 @@
 // The next log of standard input, which stands behind its group count and its length, two bytes each, low one first.
-ghost use Rattle.std.specs.Prelude.{◌≡◌, length};
-ghost use Rattle.report.specs.Made.{no_heading, behind_heading, CameBehind, Came};
-ghost use Rattle.report.specs.Report.{heading_length, most_bytes};
+ghost use Rattle.std.specs.Prelude.{◌≡◌, ◌≤◌};
+ghost use Rattle.report.specs.Made.{heading_came, log_came, Came};
+ghost use Rattle.report.specs.Report.{most_bytes, groups_at, length_at};
+ghost use Rattle.report.specs.declared.input.Missing.TheVariants.{Unread};
 
 use sense_log::pair_at;
-use streams::Ended;
+use streams::Failure;
 
 // The bytes in front of a log.
 const HEADING: usize = 4;
@@ -19,65 +20,70 @@ pub(crate) struct Heading {
     pub length: usize,
 }
 
-// What comes next: a log; nothing; input that is cut; or a read that fails, with the number of the error.
-#[derive(Drop)]
-pub(crate) enum Next {
-    Log(Heading),
-    Nothing,
+impl Heading {
+    // What a heading tells.
+    fn of(heading: &[u8; HEADING]) -> Heading
+        ensures groups { result.groups ≡ groups_at heading.now }
+        ensures length { result.length ≡ length_at heading.now }
+        ensures within { result.length ≤ most_bytes }
+    {
+        Heading {
+            groups: pair_at(heading, 0) as usize,
+            length: pair_at(heading, 2) as usize,
+        }
+    }
+}
+
+// Why no log comes next, though something does: input that is cut, or a read that fails.
+#[derive(Clone, Copy, PartialEq, Eq)]
+pub(crate) enum Missing {
     Cut,
-    Failed(u32),
+    Unread(Failure),
 }
 
-// What comes next where no whole heading could be read.
-fn no_heading(ended: Ended) -> Next
-    ensures { result ≡ no_heading ended }
-{
-    match ended {
-        Ended::After(count) => {
-            if count == 0 {
-                return Next::Nothing;
-            }
-            Next::Cut
-        }
-        Ended::Failed(number) => Next::Failed(number),
+impl From<Failure> for Missing {
+    ghost from_gives = { λ failure missing. missing ≡ Unread failure };
+
+    fn from(failure: Failure) -> Missing {
+        Missing::Unread(failure)
     }
 }
 
-// What comes next behind a heading, by how reading the log ended.
-fn behind_heading(groups: usize, length: usize, ended: Ended) -> Next
-    ensures { result ≡ behind_heading groups length ended }
+// Whether a heading comes next, by how reading it ended: a whole one, or none.
+fn heading_came(ended: Result<usize, Failure>) -> Result<bool, Missing>
+    ensures { result ≡ heading_came ended }
 {
-    match ended {
-        Ended::After(count) => {
-            if count < length {
-                return Next::Cut;
-            }
-            Next::Log(Heading { groups, length })
-        }
-        Ended::Failed(error) => Next::Failed(error),
+    match ended? {
+        HEADING => Ok(true),
+        0 => Ok(false),
+        _ => Err(Missing::Cut),
     }
 }
 
-// Reads the log behind a heading to the front of the space.
-fn read_behind(rt: &HostRuntime, heading: &[u8], log: &mut [u8]) -> Next
-    requires { (length heading.now ≡ heading_length) × (length log.old ≡ most_bytes) }
-    ensures { CameBehind heading.now log.new result }
+// Whether so many bytes of a log came, by how reading it ended.
+fn log_came(length: usize, ended: Result<usize, Failure>) -> Result<(), Missing>
+    ensures { result ≡ log_came length ended }
 {
-    let groups = pair_at(heading, 0) as usize;
-    let length = pair_at(heading, 2) as usize;
-    let ended = streams::read(&mut rt.stdin(), &mut log[..length]);
-    behind_heading(groups, length, ended)
+    if ended? < length {
+        return Err(Missing::Cut);
+    }
+    Ok(())
 }
 
-// Reads the next log to the front of the space.
-pub(crate) fn read_next(rt: &HostRuntime, log: &mut [u8]) -> Next
-    requires { length log.old ≡ most_bytes }
+// Reads the next log to the front of the space, and tells its heading; none where nothing comes.
+pub(crate) fn read_next(
+    rt: &HostRuntime,
+    log: &mut [u8; MOST_BYTES],
+) -> Result<Option<Heading>, Missing>
     ensures { Came log.new result }
 {
-    let mut heading = [0u8; HEADING];
-    let ended = streams::read(&mut rt.stdin(), &mut heading);
-    if streams::is_whole(ended, HEADING) {
-        return read_behind(rt, &heading, log);
+    let mut bytes = [0u8; HEADING];
+    let read = streams::read(&mut rt.stdin(), &mut bytes);
+    if !heading_came(read)? {
+        return Ok(None);
     }
-    no_heading(ended)
+    let heading = Heading::of(&bytes);
+    let read_behind = streams::read(&mut rt.stdin(), &mut log[..heading.length]);
+    log_came(heading.length, read_behind)?;
+    Ok(Some(heading))
 }

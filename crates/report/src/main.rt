@@ -8,53 +8,50 @@ mod line;
 mod part;
 mod whole;
 
-ghost use Rattle.std.specs.Prelude.{◌+◌, ◌^◌, ◌<◌};
 ghost use Rattle.streams.specs.Ended.{Tells};
 ghost use Rattle.report.specs.Made.{Reported};
 ghost use Rattle.report.specs.Report.{too_many_text};
 
-use page::{PAGE, put};
-use part::hand_part;
+use page::Page;
+use part::Output;
 use streams::Text;
-use whole::{End, Report, make_report};
-
-// So many maps are lent, one for each group that a heading can tell of.
-const MAPS: usize = 65535;
+use whole::{Stop, make_report};
 
 // The message of more logs than are counted.
-fn too_many(page: &mut [u8; PAGE]) -> Text
-    ensures { Tells too_many_text page.old page.new result }
+fn too_many(page: &mut Page) -> Text
+    ensures { Tells too_many_text page.new result }
 {
-    Text::Message(put(page, 0, b"cannot report more than 2251799813685248 logs\n"))
+    page.clear();
+    page.put(b"cannot report more than 2251799813685248 logs\n");
+    Text::Message
 }
 
 // Hands over the last of a report, and tells why it is not whole, also where this last part could not be written.
-fn hand_over(rt: &HostRuntime, page: &mut [u8; PAGE], report: Report)
-    requires { Reported page.old report × (report.handed + report.held < 2 ^ 64) }
+fn hand_over(rt: &HostRuntime, output: &mut Output, made: Result<(), Stop>)
+    requires { Reported output.old made }
 {
-    let end = report.end;
-    match end {
-        End::Made => {
-            hand_part(rt, page, report.held, report.handed, true);
+    match made {
+        Ok(()) => {
+            let _ = output.hand_part(rt, true);
         }
-        End::Unread(number) => {
-            hand_part(rt, page, report.held, report.handed, true);
-            let text = streams::unread(page, number);
-            streams::finish(rt, text, page);
+        Err(Stop::Unread(failure)) => {
+            let _ = output.hand_part(rt, true);
+            let text = streams::unread(&mut output.page, failure);
+            let _ = streams::finish(rt, text, &mut output.page);
         }
-        End::TooMany => {
-            hand_part(rt, page, report.held, report.handed, true);
-            let text = too_many(page);
-            streams::finish(rt, text, page);
+        Err(Stop::TooMany) => {
+            let _ = output.hand_part(rt, true);
+            let text = too_many(&mut output.page);
+            let _ = streams::finish(rt, text, &mut output.page);
         }
-        End::Told => {}
+        Err(Stop::Told) => {}
     }
 }
 
 fn main(rt: HostRuntime) {
-    let mut page = [0u8; PAGE];
+    let mut output = Output::new();
     let mut log = [0u8; input::MOST_BYTES];
-    let mut maps = [0u16; MAPS];
-    let made = make_report(&rt, &mut page, &mut log, &mut maps);
-    hand_over(&rt, &mut page, made);
+    let mut maps = [0u16; line::MAPS];
+    let made = make_report(&rt, &mut output, &mut log, &mut maps);
+    hand_over(&rt, &mut output, made);
 }

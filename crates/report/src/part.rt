@@ -1,42 +1,42 @@
 // A part of the report, handed over: all of the program's output goes through `hand_part`, which takes only what is due.
-ghost use Rattle.std.specs.Prelude.{◌≡◌, ◌+◌, ◌^◌, ◌<◌};
-ghost use Rattle.report.specs.Made.{Due, handed_of, HandedOver};
+ghost use Rattle.std.specs.Prelude.{[], ◌≡◌, Some};
+ghost use Rattle.report.specs.Made.{Due, Bounded, HandedOver};
 
-use page::PAGE;
-use streams::Ended;
+use page::Page;
 
-// What came of handing a part over: it was taken, and so many bytes of the report have gone out by then; or it was not, and
-// that was told.
+// The program's output: so many bytes were handed over, and the page holds the next.
 #[derive(Drop)]
-pub(crate) enum Handed {
-    Whole(usize),
-    Unwritten,
+pub(crate) struct Output {
+    pub page: Page,
+    pub handed: usize,
 }
 
-// What came of it, by how writing ended.
-fn handed_by(sent: Ended, held: usize, handed: usize) -> Handed
-    requires { handed + held < 2 ^ 64 }
-    ensures { result ≡ handed_of sent held handed }
-{
-    if streams::is_whole(sent, held) {
-        return Handed::Whole(handed + held);
-    }
-    Handed::Unwritten
-}
+// A part was not taken whole, and that was told.
+#[derive(Clone, Copy, PartialEq, Eq)]
+pub(crate) struct Unwritten;
 
-// Hands over what the page holds, behind so many bytes that were handed over before. With the last part a file is stored.
-pub(crate) fn hand_part(
-    rt: &HostRuntime,
-    page: &mut [u8; PAGE],
-    held: usize,
-    handed: usize,
-    last: bool,
-) -> Handed
-    requires { Due handed page.old held × (handed + held < 2 ^ 64) }
-    ensures { HandedOver held handed page.old page.new result }
-{
-    if last {
-        return handed_by(streams::finish_behind(rt, page, held, handed), held, handed);
+impl Output {
+    // An output of which nothing is made.
+    pub(crate) fn new() -> Output
+        ensures { (result.page ≡ Some []) × (result.handed ≡ 0) }
+    {
+        Output {
+            page: Page::new(),
+            handed: 0,
+        }
     }
-    handed_by(streams::pass_on(rt, page, held, handed), held, handed)
+
+    // Hands over what the page holds, behind what was handed over before. With the last part a file is stored.
+    pub(crate) fn hand_part(&mut self, rt: &HostRuntime, last: bool) -> Result<(), Unwritten>
+        requires { Due self.old × Bounded self.old }
+        ensures { HandedOver self.old self.new result }
+    {
+        let held = self.page.count();
+        let sent = streams::pass_on(rt, &mut self.page, self.handed, last);
+        if !streams::is_whole(sent, held) {
+            return Err(Unwritten);
+        }
+        self.handed += held;
+        Ok(())
+    }
 }

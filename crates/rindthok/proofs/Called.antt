@@ -7,15 +7,14 @@ use Prim.Native.Nat.{ℕ}
 use native.Mathlib.Omega.{arith}
 use borrow.Author.Tests.{eq-eqb, ne_eqb}
 use lib.ListN.{length}
-use Rattle.answer.specs.Answer.{Answer, delivered, refused, output_after, figures_after}
+use Rattle.answer.specs.Answer.{Answer, delivered, refused, told, output_after}
 use Rattle.answer.proofs.Listed.{listed_positive}
-use Rattle.head_order.specs.declared.Stored.{Stored}
-use Rattle.head_order.specs.declared.Stored.TheVariants as Stored
-use Rattle.head_order.specs.Told.{told_stored}
+use Rattle.answer.specs.declared.Refusal.{Refusal}
+use Rattle.std.specs.Prelude.{Result, Ok, Err}
 use Rattle.terms.specs.Call.{Call, answer_to, result_of}
 use Rattle.terms.specs.Terms.{FirstTerm}
 use Rattle.terms.proofs.Terms.{terms_hold}
-use Rattle.rindthok.specs.Called.{Told, answer_from, Called}
+use Rattle.rindthok.specs.Called.{status, place_told, Told, Stored, answer_from, Called}
 
 -- the answer is read from what is told, if no refusal has number 0
 answer_read : (call : Call) (answer : Answer) (before after figuresBefore figures : List ℕ) (returned place : ℕ)
@@ -43,7 +42,25 @@ module _ (call : Call) (answer : Answer) (before after figuresBefore figures : L
             (stores ∙ ap (λ (a : Answer). output_after a (result_of call) before) (sym read));
       }
 
--- what is stored without a figure, as nine words are, leaves none
-pub no_figures : (a : Stored) → [] ≡ figures_after (told_stored a []) []
-no_figures Stored.Delivered = refl
-no_figures (Stored.Refused r) = refl
+-- the number and the place that C gets are those of the answer, whatever its figures
+same_status : (left : Result (Unit {0}) Refusal) (figures : List ℕ) → status (told (λ _. []) left) ≡ status (told (λ _. figures) left)
+same_status (Ok done) figures = refl
+same_status (Err r) figures = refl
+
+same_place : (left : Result (Unit {0}) Refusal) (figures : List ℕ) → place_told (told (λ _. []) left) ≡ place_told (told (λ _. figures) left)
+same_place (Ok done) figures = refl
+same_place (Err r) figures = refl
+
+pub stored_told : (answer : Answer) (before after : List ℕ) (left : Result (Unit {0}) Refusal) (returned place : ℕ)
+    → Stored answer before after left → returned ≡ status (told (λ _. []) left) → place ≡ place_told (told (λ _. []) left)
+    → Told answer before after returned place
+stored_told answer before after left returned place stored number at = record {
+  number = number ∙ same_status left after ∙ ap status stored.passed;
+  place_as_told = at ∙ same_place left after ∙ ap place_told stored.passed;
+  figures = stored.figures;
+}
+
+-- what is stored without a figure, as nine words are
+pub no_figures : (left : Result (Unit {0}) Refusal) → Stored (told (λ _. []) left) [] [] left
+no_figures (Ok done) = record { passed = refl; figures = refl }
+no_figures (Err r) = record { passed = refl; figures = refl }

@@ -1,7 +1,8 @@
 -- What a call from C promises: of the number that it returns, of the place and the figures that it stores, and of its output.
 -- Assumes nothing.
-use Rattle.std.specs.Prelude.{cond, List, ◌≡◌, ℕ, eqb, length}
-use Rattle.answer.specs.Answer.{Answer, delivered, refused, output_after, figures_after}
+use Rattle.std.specs.Prelude.{cond, List, ◌≡◌, ℕ, Result, eqb, length}
+use Rattle.answer.specs.Answer.{Answer, delivered, refused, told, output_after, figures_after}
+use Rattle.answer.specs.declared.Refusal.{Refusal}
 use Rattle.terms.specs.Call.{Call, answer_to, result_of}
 use Rattle.terms.specs.Terms.{Terms}
 
@@ -19,6 +20,12 @@ place_told (refused number place) = place
 pub record Told (answer : Answer) (before after : List ℕ) (returned place : ℕ) : Type 0 where
   pub number : returned ≡ status answer
   pub place_as_told : place ≡ place_told answer
+  pub figures : after ≡ figures_after answer before
+
+-- What is done of an answer once its figures are stored: a delivery's are in these numbers, a refusal has left them, and the answer passes
+-- through.
+pub record Stored (answer : Answer) (before after : List ℕ) (left : Result (Unit {0}) Refusal) : Type 0 where
+  pub passed : told (λ _. after) left ≡ answer
   pub figures : after ≡ figures_after answer before
 
 -- the answer as the caller reads it from what was returned and stored

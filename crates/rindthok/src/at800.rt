@@ -3,11 +3,12 @@ ghost use Rattle.std.specs.Prelude.{true, false, [], ◌∷◌};
 ghost use Rattle.scan800.specs.Told.{told_read};
 ghost use Rattle.terms.specs.Call as Call;
 ghost use Rattle.terms.specs.Reading.{bpi800, at800};
-ghost use Rattle.rindthok.specs.Called.{Told, Called};
+ghost use Rattle.rindthok.specs.Called.{Stored, Called};
 
-use crate::{refused_status, written_status};
+use crate::{status, store_count};
+use answer::Refusal;
 use cyclic::Code800;
-use reader800::Read;
+use reader800::Figures;
 
 // Writes an 800 record, and stores the number of its characters.
 #[unsafe(no_mangle)]
@@ -19,7 +20,10 @@ pub extern "C" fn rindthok_write800(
 ) -> u16
     ensures { Called (Call.write bpi800 bytes.now) characters.old characters.new (count.old ∷ []) (count.new ∷ []) result place.new }
 {
-    written_status(writer800::write(bytes, characters), count, place)
+    status(
+        store_count(writer800::write(bytes, characters), count),
+        place,
+    )
 }
 
 // Reads an 800 record forward, and stores the data's length, the corrected track, the number of changed characters, and that
@@ -36,9 +40,8 @@ pub extern "C" fn rindthok_read800_forward(
 ) -> u16
     ensures { Called (Call.read (at800 false characters.now)) output.old output.new (size.old ∷ track.old ∷ changes.old ∷ counts.old) (size.new ∷ track.new ∷ changes.new ∷ counts.new) result place.new }
 {
-    read_record(
-        characters, false, output, size, track, changes, counts, place,
-    )
+    let answer = reader800::read_record(characters, false, output);
+    status(store_figures(answer, size, track, changes, counts), place)
 }
 
 // Reads an 800 record backward, and stores the same.
@@ -54,48 +57,24 @@ pub extern "C" fn rindthok_read800_backward(
 ) -> u16
     ensures { Called (Call.read (at800 true characters.now)) output.old output.new (size.old ∷ track.old ∷ changes.old ∷ counts.old) (size.new ∷ track.new ∷ changes.new ∷ counts.new) result place.new }
 {
-    read_record(
-        characters, true, output, size, track, changes, counts, place,
-    )
+    let answer = reader800::read_record(characters, true, output);
+    status(store_figures(answer, size, track, changes, counts), place)
 }
 
-// Reads an 800 record in a direction.
-fn read_record(
-    characters: &[u16],
-    backward: bool,
-    output: &mut [u8],
+// Stores what reading a record delivers.
+pub(crate) fn store_figures(
+    answer: Result<Figures, Refusal>,
     size: &mut usize,
     track: &mut usize,
     changes: &mut usize,
     counts: &mut [usize; Code800::TRACKS],
-    place: &mut usize,
-) -> u16
-    ensures { Called (Call.read (at800 backward characters.now)) output.old output.new (size.old ∷ track.old ∷ changes.old ∷ counts.old) (size.new ∷ track.new ∷ changes.new ∷ counts.new) result place.new }
+) -> Result<(), Refusal>
+    ensures { Stored (told_read answer) (size.old ∷ track.old ∷ changes.old ∷ counts.old) (size.new ∷ track.new ∷ changes.new ∷ counts.new) result }
 {
-    let answer = reader800::read_record(characters, backward, output);
-    read_status(answer, size, track, changes, counts, place)
-}
-
-// The answer for a reading as numbers.
-pub(crate) fn read_status(
-    answer: Read,
-    size: &mut usize,
-    track: &mut usize,
-    changes: &mut usize,
-    counts: &mut [usize; Code800::TRACKS],
-    place: &mut usize,
-) -> u16
-    ensures { Told (told_read answer) (size.old ∷ track.old ∷ changes.old ∷ counts.old) (size.new ∷ track.new ∷ changes.new ∷ counts.new) result place.new }
-{
-    match answer {
-        Read::Delivered(figures) => {
-            *size = figures.length;
-            *track = figures.track;
-            *changes = figures.changes;
-            figures.store_counts(counts);
-            *place = 0;
-            0
-        }
-        Read::Refused(refusal) => refused_status(refusal, place),
-    }
+    let figures = answer?;
+    *size = figures.length;
+    *track = figures.track.unwrap_or(Code800::TRACKS);
+    *changes = figures.changes;
+    figures.store_counts(counts);
+    Ok(())
 }

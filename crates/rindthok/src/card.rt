@@ -4,7 +4,8 @@ ghost use Rattle.terms.specs.Call as Call;
 ghost use Rattle.track_order.specs.declared.Toward.TheVariants.{Physical, Algebraic};
 ghost use Rattle.rindthok.specs.Called.{Called};
 
-use crate::order::{map_status, stored_status};
+use crate::order::store_map;
+use crate::status;
 use head_order::card;
 use rectangular::Code6250;
 use track_order::Toward;
@@ -19,7 +20,7 @@ pub extern "C" fn rindthok_card_words_to_physical(
 ) -> u16
     ensures { Called (Call.move_words Physical card.now source.now) target.old target.new [] [] result place.new }
 {
-    stored_status(card::words(Toward::Physical, card, source, target), place)
+    status(card::words(Toward::Physical, card, source, target), place)
 }
 
 // Nine words from head order to code order.
@@ -32,7 +33,7 @@ pub extern "C" fn rindthok_card_words_to_algebraic(
 ) -> u16
     ensures { Called (Call.move_words Algebraic card.now source.now) target.old target.new [] [] result place.new }
 {
-    stored_status(card::words(Toward::Algebraic, card, source, target), place)
+    status(card::words(Toward::Algebraic, card, source, target), place)
 }
 
 // A pointer map from code order to head order.
@@ -45,7 +46,10 @@ pub extern "C" fn rindthok_card_map_to_physical(
 ) -> u16
     ensures { Called (Call.move_map Physical card.now map) [] [] (moved.old ∷ []) (moved.new ∷ []) result place.new }
 {
-    map_status(card::map(Toward::Physical, card, map), moved, place)
+    status(
+        store_map(card::map(Toward::Physical, card, map), moved),
+        place,
+    )
 }
 
 // A pointer map from head order to code order.
@@ -58,7 +62,10 @@ pub extern "C" fn rindthok_card_map_to_algebraic(
 ) -> u16
     ensures { Called (Call.move_map Algebraic card.now map) [] [] (moved.old ∷ []) (moved.new ∷ []) result place.new }
 {
-    map_status(card::map(Toward::Algebraic, card, map), moved, place)
+    status(
+        store_map(card::map(Toward::Algebraic, card, map), moved),
+        place,
+    )
 }
 
 // The inverse card: its nine numbers are the figures of the answer, and a refusal leaves them.
@@ -70,5 +77,5 @@ pub extern "C" fn rindthok_inverse_card(
 ) -> u16
     ensures { Called (Call.invert_card card.now) [] [] inverse.old inverse.new result place.new }
 {
-    stored_status(card::inverse(card, inverse), place)
+    status(card::inverse(card, inverse), place)
 }

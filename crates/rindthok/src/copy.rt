@@ -2,13 +2,13 @@
 ghost use Rattle.std.specs.Prelude.{true, false, [], ◌∷◌, ◌++◌};
 ghost use Rattle.copier800.specs.Told.{told_copied};
 ghost use Rattle.terms.specs.Call as Call;
-ghost use Rattle.rindthok.specs.Called.{Told, Called};
+ghost use Rattle.rindthok.specs.Called.{Stored, Called};
 
-use crate::at800::read_status;
-use crate::refused_status;
+use crate::at800::store_figures;
+use crate::status;
+use answer::Refusal;
 use copier800::Copied;
 use cyclic::Code800;
-use reader800::Read;
 
 // Copies an 800 record that was read forward, and stores the figures of the reading and the number of groups.
 #[unsafe(no_mangle)]
@@ -24,8 +24,10 @@ pub extern "C" fn rindthok_copy800_forward(
 ) -> u16
     ensures { Called (Call.copy false characters.now) words.old words.new (size.old ∷ track.old ∷ changes.old ∷ counts.old ++ (groups.old ∷ [])) (size.new ∷ track.new ∷ changes.new ∷ counts.new ++ (groups.new ∷ [])) result place.new }
 {
-    copy_record(
-        characters, false, words, size, track, changes, counts, groups, place,
+    let answer = copier800::copy_record(characters, false, words);
+    status(
+        store_copied(answer, size, track, changes, counts, groups),
+        place,
     )
 }
 
@@ -43,53 +45,25 @@ pub extern "C" fn rindthok_copy800_backward(
 ) -> u16
     ensures { Called (Call.copy true characters.now) words.old words.new (size.old ∷ track.old ∷ changes.old ∷ counts.old ++ (groups.old ∷ [])) (size.new ∷ track.new ∷ changes.new ∷ counts.new ++ (groups.new ∷ [])) result place.new }
 {
-    copy_record(
-        characters, true, words, size, track, changes, counts, groups, place,
+    let answer = copier800::copy_record(characters, true, words);
+    status(
+        store_copied(answer, size, track, changes, counts, groups),
+        place,
     )
 }
 
-// Copies an 800 record that was read in a direction.
-fn copy_record(
-    characters: &[u16],
-    backward: bool,
-    words: &mut [u16],
+// Stores what copying a record delivers: the figures of the reading as a reader's are, and the number of groups.
+fn store_copied(
+    answer: Result<Copied, Refusal>,
     size: &mut usize,
     track: &mut usize,
     changes: &mut usize,
     counts: &mut [usize; Code800::TRACKS],
     groups: &mut usize,
-    place: &mut usize,
-) -> u16
-    ensures { Called (Call.copy backward characters.now) words.old words.new (size.old ∷ track.old ∷ changes.old ∷ counts.old ++ (groups.old ∷ [])) (size.new ∷ track.new ∷ changes.new ∷ counts.new ++ (groups.new ∷ [])) result place.new }
+) -> Result<(), Refusal>
+    ensures { Stored (told_copied answer) (size.old ∷ track.old ∷ changes.old ∷ counts.old ++ (groups.old ∷ [])) (size.new ∷ track.new ∷ changes.new ∷ counts.new ++ (groups.new ∷ [])) result }
 {
-    let answer = copier800::copy_record(characters, backward, words);
-    copied_status(answer, size, track, changes, counts, groups, place)
-}
-
-// The answer for a copy as numbers: the figures of the reading are stored as a reader's are.
-fn copied_status(
-    answer: Copied,
-    size: &mut usize,
-    track: &mut usize,
-    changes: &mut usize,
-    counts: &mut [usize; Code800::TRACKS],
-    groups: &mut usize,
-    place: &mut usize,
-) -> u16
-    ensures { Told (told_copied answer) (size.old ∷ track.old ∷ changes.old ∷ counts.old ++ (groups.old ∷ [])) (size.new ∷ track.new ∷ changes.new ∷ counts.new ++ (groups.new ∷ [])) result place.new }
-{
-    match answer {
-        Copied::Delivered(figures, number) => {
-            *groups = number;
-            read_status(
-                Read::Delivered(figures),
-                size,
-                track,
-                changes,
-                counts,
-                place,
-            )
-        }
-        Copied::Refused(refusal) => refused_status(refusal, place),
-    }
+    let copied = answer?;
+    *groups = copied.groups;
+    store_figures(Ok(copied.figures), size, track, changes, counts)
 }

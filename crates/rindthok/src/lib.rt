@@ -11,31 +11,34 @@ mod copy;
 mod log;
 mod order;
 
-ghost use Rattle.std.specs.Prelude.{List, [], ◌∷◌, ℕ};
-ghost use Rattle.answer.specs.Answer.{told_refusal, told_written};
-ghost use Rattle.rindthok.specs.Called.{Told};
+ghost use Rattle.std.specs.Prelude.{[], ◌∷◌, ◌≡◌};
+ghost use Rattle.answer.specs.Answer.{told, told_written};
+ghost use Rattle.rindthok.specs.Called.{status, place_told, Stored};
 
-use answer::{Refusal, Written};
+use answer::Refusal;
 
-// A refusal as numbers: whatever figures there are, they stay.
-fn refused_status(refusal: Refusal, place: &mut usize) -> u16
-    ensures { (figures : List ℕ) → Told (told_refusal refusal) figures figures result place.new }
-{
-    *place = refusal.place;
-    let reason = refusal.reason;
-    reason.number()
-}
-
-// The answer for a written record or log as numbers: what is counted is its groups, its characters or its bytes.
-fn written_status(answer: Written, count: &mut usize, place: &mut usize) -> u16
-    ensures { Told (told_written answer) (count.old ∷ []) (count.new ∷ []) result place.new }
+// What C gets of an answer whose figures are stored by then: 0 for a delivery, or the refusal's number, and the place. C has numbers only, and a call
+// for each direction: the header's interface.
+fn status(answer: Result<(), Refusal>, place: &mut usize) -> u16
+    ensures number { result ≡ status (told (λ _. []) answer) }
+    ensures place { place.new ≡ place_told (told (λ _. []) answer) }
 {
     match answer {
-        Written::Delivered(number) => {
-            *count = number;
+        Ok(()) => {
             *place = 0;
             0
         }
-        Written::Refused(refusal) => refused_status(refusal, place),
+        Err(refusal) => {
+            *place = refusal.place;
+            refusal.reason.number()
+        }
     }
+}
+
+// Stores what writing a record or a log delivers: the number of its groups, its characters or its bytes.
+fn store_count(answer: Result<usize, Refusal>, count: &mut usize) -> Result<(), Refusal>
+    ensures { Stored (told_written answer) (count.old ∷ []) (count.new ∷ []) result }
+{
+    *count = answer?;
+    Ok(())
 }

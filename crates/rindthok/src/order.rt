@@ -1,13 +1,13 @@
 // Head order for C, by the standard card.
-ghost use Rattle.std.specs.Prelude.{List, [], ◌∷◌, ◌≡◌, ℕ};
-ghost use Rattle.answer.specs.Answer.{figures_after};
-ghost use Rattle.head_order.specs.Told.{told_stored, told_map};
+ghost use Rattle.std.specs.Prelude.{[], ◌∷◌};
+ghost use Rattle.head_order.specs.Told.{told_map};
 ghost use Rattle.terms.specs.Call as Call;
 ghost use Rattle.track_order.specs.declared.Toward.TheVariants.{Physical, Algebraic};
-ghost use Rattle.rindthok.specs.Called.{Told, Called};
+ghost use Rattle.rindthok.specs.Called.{Stored, Called};
 
-use crate::refused_status;
-use head_order::{MovedMap, Stored, standard};
+use crate::status;
+use answer::Refusal;
+use head_order::standard;
 use track_order::Toward;
 
 // Nine words from code order to head order.
@@ -19,7 +19,7 @@ pub extern "C" fn rindthok_words_to_physical(
 ) -> u16
     ensures { Called (Call.standard_words Physical source.now) target.old target.new [] [] result place.new }
 {
-    stored_status(standard::words(Toward::Physical, source, target), place)
+    status(standard::words(Toward::Physical, source, target), place)
 }
 
 // Nine words from head order to code order.
@@ -31,7 +31,7 @@ pub extern "C" fn rindthok_words_to_algebraic(
 ) -> u16
     ensures { Called (Call.standard_words Algebraic source.now) target.old target.new [] [] result place.new }
 {
-    stored_status(standard::words(Toward::Algebraic, source, target), place)
+    status(standard::words(Toward::Algebraic, source, target), place)
 }
 
 // A pointer map from code order to head order.
@@ -39,7 +39,10 @@ pub extern "C" fn rindthok_words_to_algebraic(
 pub extern "C" fn rindthok_map_to_physical(map: u16, moved: &mut u16, place: &mut usize) -> u16
     ensures { Called (Call.standard_map Physical map) [] [] (moved.old ∷ []) (moved.new ∷ []) result place.new }
 {
-    map_status(standard::map(Toward::Physical, map), moved, place)
+    status(
+        store_map(standard::map(Toward::Physical, map), moved),
+        place,
+    )
 }
 
 // A pointer map from head order to code order.
@@ -47,32 +50,17 @@ pub extern "C" fn rindthok_map_to_physical(map: u16, moved: &mut u16, place: &mu
 pub extern "C" fn rindthok_map_to_algebraic(map: u16, moved: &mut u16, place: &mut usize) -> u16
     ensures { Called (Call.standard_map Algebraic map) [] [] (moved.old ∷ []) (moved.new ∷ []) result place.new }
 {
-    map_status(standard::map(Toward::Algebraic, map), moved, place)
+    status(
+        store_map(standard::map(Toward::Algebraic, map), moved),
+        place,
+    )
 }
 
-// The answer for what is stored in lent numbers, as numbers: whatever figures are there, none or a card's.
-pub(crate) fn stored_status(answer: Stored, place: &mut usize) -> u16
-    ensures { (figures before after : List ℕ) → after ≡ figures_after (told_stored answer figures) before → Told (told_stored answer figures) before after result place.new }
+// Stores the map that was moved.
+pub(crate) fn store_map(answer: Result<u16, Refusal>, moved: &mut u16) -> Result<(), Refusal>
+    ensures { Stored (told_map answer) (moved.old ∷ []) (moved.new ∷ []) result }
 {
-    match answer {
-        Stored::Delivered => {
-            *place = 0;
-            0
-        }
-        Stored::Refused(refusal) => refused_status(refusal, place),
-    }
-}
-
-// The answer for a map as numbers.
-pub(crate) fn map_status(answer: MovedMap, moved: &mut u16, place: &mut usize) -> u16
-    ensures { Told (told_map answer) (moved.old ∷ []) (moved.new ∷ []) result place.new }
-{
-    match answer {
-        MovedMap::Delivered(map) => {
-            *moved = map;
-            *place = 0;
-            0
-        }
-        MovedMap::Refused(refusal) => refused_status(refusal, place),
-    }
+    let map = answer?;
+    *moved = map;
+    Ok(())
 }

@@ -1,6 +1,6 @@
 -- The answer of a reading by its groups and its padding, and what is gathered of it.
 -- Assumes nothing.
-use mathlib.Core.Path.{◌≡◌, refl, sym, ap, ap₂, ◌∙◌}
+use mathlib.Core.Path.{◌≡◌, refl, sym, ap, ◌∙◌}
 use mathlib.Core.Bool.{Bool, true, false, cond, not}
 use mathlib.Core.List.{List, ◌∷◌, ◌++◌}
 use Prim.Native.Nat.{ℕ, ◌-◌, ◌*◌, ◌<◌, ◌≤◌}
@@ -9,7 +9,7 @@ use native.Mathlib.Omega.{arith}
 use borrow.Author.Tests.{lt-ltb, le-ltb, ltb-false}
 use lib.Dec.{ltb}
 use lib.ListN.{length, get_or, take, drop, length-append}
-use lib.Seq.{length-take-le, get_or-take, take-take, take_at}
+use lib.Seq.{length-take-le, take_at}
 use Rattle.indexed.specs.List.{tabulate, tabulate_from, blocks}
 use Rattle.indexed.proofs.Below.{first_below_le}
 use Rattle.indexed.proofs.Blocks.{length_blocks}
@@ -21,29 +21,15 @@ use Rattle.record6250.proofs.FittingGroup.{length_right_bytes}
 use Rattle.record6250.proofs.Padding.{last_le}
 use Rattle.answer.proofs.Apart.{not_both}
 
--- ---- the bytes in front of a body
+-- ---- the bytes, and those before their padding
 
-module _ (body : List ℕ) (size : ℕ) (long : 7 ≤ size) (within : size ≤ length body) where
-  abbrev bytes : List ℕ
-  bytes = take size body
-
-  pub bytes_long : length bytes ≡ size
-  bytes_long = length-take-le size body within
-
-  pub last_is : last_byte bytes ≡ get_or body (size - 1) 0
-  unfolding last_byte
-  last_is = ap (λ (n : ℕ). get_or bytes (n - 1) 0) bytes_long ∙ get_or-take size body (size - 1) 0 (omega arith)
-
-  pub data_is : unpadded bytes ≡ take (size - 1 - get_or body (size - 1) 0) body
-  unfolding unpadded
-  data_is =
-      ap₂ (λ (n l : ℕ). take (n - 1 - l) bytes) bytes_long last_is ∙ take-take (size - 1 - get_or body (size - 1) 0) size body (omega arith)
-
-  pub data_long : length (unpadded bytes) ≡ size - 1 - get_or body (size - 1) 0
-  data_long = ap length data_is ∙ length-take-le (size - 1 - get_or body (size - 1) 0) body (omega arith)
+module _ (bytes : List ℕ) (long : 7 ≤ length bytes) where
+  pub data_long : length (unpadded bytes) ≡ length bytes - 1 - get_or bytes (length bytes - 1) 0
+  unfolding unpadded last_byte
+  data_long = length-take-le (length bytes - 1 - get_or bytes (length bytes - 1) 0) bytes (omega arith)
 
   module _ (changed : List ℕ) where
-    pub suits_answer : padding_suits bytes ≡ true → delivered ((size - 1 - get_or body (size - 1) 0) ∷ changed) ≡ padding_answer bytes changed
+    pub suits_answer : padding_suits bytes ≡ true → delivered ((length bytes - 1 - get_or bytes (length bytes - 1) 0) ∷ changed) ≡ padding_answer bytes changed
     unfolding padding_answer
     suits_answer e =
         ap (λ (n : ℕ). delivered (n ∷ changed)) (sym data_long)
@@ -53,8 +39,9 @@ module _ (body : List ℕ) (size : ℕ) (long : 7 ≤ size) (within : size ≤ l
     unfolding padding_answer
     padding_answer_lem e = sym (ap (λ (b : Bool). cond b (delivered (length (unpadded bytes) ∷ changed)) (refused 6 0)) e)
 
-  pub last_six : padding_suits bytes ≡ true → get_or body (size - 1) 0 ≤ 6
-  last_six e = rw (← last_is) (last_le bytes e)
+  pub last_six : padding_suits bytes ≡ true → get_or bytes (length bytes - 1) 0 ≤ 6
+  unfolding last_byte
+  last_six e = last_le bytes e
 
 -- ---- the groups, and then the padding
 

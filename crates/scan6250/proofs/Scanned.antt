@@ -1,6 +1,6 @@
 -- A walk over the groups of a reading: what is known where it stops, and what it has gathered.
 -- Assumes nothing.
-use mathlib.Core.Path.{◌≡◌, sym, ap, ◌∙◌}
+use mathlib.Core.Path.{◌≡◌, refl, sym, ap, ◌∙◌}
 use mathlib.Core.Bool.{Bool, true, false, cond, not}
 use mathlib.Core.List.{List, ◌∷◌}
 use Prim.Native.Nat.{ℕ, ◌+◌, ◌-◌, ◌<◌}
@@ -19,12 +19,13 @@ use Rattle.rectangular.proofs.Changed.{changed_lt}
 use Rattle.answer.specs.Answer.{Answer, delivered, refused_for}
 use Rattle.rectangular.specs.Correction.{Judgement, corrected}
 use Rattle.rectangular.specs.Group.{information_of}
-use Rattle.judge6250.specs.Told.{told_judged, told_changed}
+use Rattle.judge6250.specs.Told.{told_reason, told_judged, told_changed}
+use Rattle.std.specs.Prelude.{Result, Ok, Err, MatchResult, IsErrAnd}
 use Rattle.group6250.specs.Packed.{byte_at, values_of}
 use Rattle.group6250.specs.declared.group.Group.{Group}
 use Rattle.judge6250.specs.declared.judge.Correction.{Correction}
-use Rattle.judge6250.specs.declared.judge.Judged.{Judged}
-use Rattle.judge6250.specs.declared.judge.Judged.TheVariants.{Corrected}
+use Rattle.judge6250.specs.declared.errors.Unfit.{Unfit}
+use Rattle.judge6250.specs.declared.errors.Unfit.TheVariants.{ManyPointed, NoGroup}
 use Rattle.group6250.proofs.Packed.{value_low}
 use Rattle.rectangular.proofs.Symmetry.{column_ext}
 use Rattle.record6250.specs.Group.{is_corrected, reason_of, right_values, right_bytes, right_words}
@@ -37,12 +38,34 @@ unfolding right_bytes right_values information_of
 packed_bytes g = tabulate_same 7 _ _ (λ k h. column_ext 8 _ _ (λ i b. sym (value_low g i b)) (7 - k))
 
 -- what is told of a group that fits
-pub told_corrected : (j : Judgement) (told : Judged) (c : Correction) → told ≡ Corrected c → told_judged told ≡ j → j ≡ corrected (values_of c.group)
+pub told_corrected : (j : Judgement) (told : Result Correction Unfit) (c : Correction) → told ≡ Ok c → told_judged told ≡ j → j ≡ corrected (values_of c.group)
 told_corrected j told c e t = sym t ∙ ap told_judged e
 
-pub told_changed_lem : (n : ℕ) (told : Judged) (c : Correction) → told ≡ Corrected c → (is_corrected (told_judged told) ≡ true → told_changed told ≡ n) → c.changed ≡ n
+pub told_changed_lem : (n : ℕ) (told : Result Correction Unfit) (c : Correction) → told ≡ Ok c → (is_corrected (told_judged told) ≡ true → told_changed told ≡ n) → c.changed ≡ n
 unfolding is_corrected
-told_changed_lem n told c e t = sym (ap told_changed e) ∙ t (ap (λ (x : Judged). is_corrected (told_judged x)) e)
+told_changed_lem n told c e t = sym (ap told_changed e) ∙ t (ap (λ (x : Result Correction Unfit). is_corrected (told_judged x)) e)
+
+-- what an answer is whose reason is told in another way
+module _ {A E D : Type 0} (from : Result A E) (answer : Result A D) (Q : E → D → Type 0) (cases : MatchResult from (λ v. answer ≡ Ok v) (λ e. IsErrAnd answer (Q e))) where
+  pub was_ok : (v : A) → answer ≡ Ok v → from ≡ Ok v
+  was_ok v is = by from cases
+    where
+      by : (r : Result A E) → MatchResult r (λ v. answer ≡ Ok v) (λ e. IsErrAnd answer (Q e)) → r ≡ Ok v
+      by (Ok x) m = let same : ◌≡◌ {A = Result A D} (Ok x) (Ok v) = sym m ∙ is in let inner : x ≡ v = cc in ap Ok inner
+      by (Err e) m = absurd (rw is at m)
+
+  pub was_err : (d : D) → answer ≡ Err d → (e : E) × (from ≡ Err e) × Q e d
+  was_err d is = by from cases
+    where
+      by : (r : Result A E) → MatchResult r (λ v. answer ≡ Ok v) (λ e. IsErrAnd answer (Q e)) → (e : E) × (r ≡ Err e) × Q e d
+      by (Ok x) m = let same : ◌≡◌ {A = Result A D} (Ok x) (Err d) = sym m ∙ is in absurd (cc)
+      by (Err e) m = (e, refl, rw is at m)
+
+-- what is told of one that nothing fits
+pub unfit_told : (unfit : Unfit) → (is_corrected (told_judged (Err unfit)) ≡ false) × (reason_of (told_judged (Err unfit)) ≡ told_reason unfit)
+unfolding is_corrected reason_of
+unfit_told ManyPointed = (refl, refl)
+unfit_told NoGroup = (refl, refl)
 
 module _ (backward : Bool) (words maps : List ℕ) where
   -- what a walk promises at its end

@@ -1,26 +1,23 @@
 -- What the code tells of a reading, and what it has gathered of it.
 -- Assumes nothing.
-use Rattle.std.specs.Prelude.{ℕ, ◌*◌, Bool, cond, List, ◌∷◌, ◌++◌, ltb, length, drop}
+use Rattle.std.specs.Prelude.{ℕ, ◌*◌, Bool, cond, List, Result, ◌∷◌, ◌++◌, ltb, length, drop}
 use Rattle.indexed.specs.List.{tabulate, blocks}
-use Rattle.answer.specs.Answer.{Answer, delivered, refused_for, told_refusal}
+use Rattle.answer.specs.Answer.{Answer, delivered, refused_for, told}
+use Rattle.answer.specs.declared.Refusal.{Refusal}
 use Rattle.answer.specs.declared.Reason.TheVariants.{Padding}
 use Rattle.rectangular.specs.Constants.{bytes_per_group}
 use Rattle.record6250.specs.Group.{reason_of, right_bytes}
 use Rattle.record6250.specs.Read.{judgement, changed_tracks, first_stray, first_unfit, changes, track_changes, padding_suits, unpadded}
 use Rattle.track_counts.specs.Counts.{counts_told}
-use Rattle.scan6250.specs.declared.Read.{Read}
-use Rattle.scan6250.specs.declared.Read.TheVariants.{Delivered, Refused}
-use Rattle.scan6250.specs.declared.gather.Gathered.{Gathered}
-use Rattle.scan6250.specs.declared.gather.Gathered.TheVariants.{All, Unfit}
+use Rattle.track_counts.specs.declared.Counts.{Counts}
+use Rattle.scan6250.specs.declared.Figures.{Figures}
 
 -- a delivery tells the data's length, how many words differ from the record that is delivered, and how many in each track
-abbrev pub told_read : Read → Answer
-told_read (Delivered figures) = delivered (figures.length ∷ figures.changes ∷ counts_told figures.counts)
-told_read (Refused r) = told_refusal r
+abbrev pub told_read : Result Figures Refusal → Answer
+told_read = told (λ figures. figures.length ∷ figures.changes ∷ counts_told figures.counts)
 
-abbrev pub told_gathered : Gathered → Answer
-told_gathered (All changed counts) = delivered (changed ∷ counts_told counts)
-told_gathered (Unfit r) = told_refusal r
+abbrev pub told_gathered : Result (ℕ × Counts) Refusal → Answer
+told_gathered = told (λ gathered. gathered.0 ∷ counts_told gathered.1)
 
 -- the answer for the corrected bytes of a record whose groups all fit, with these changes: their number, and that of each track
 unfoldable pub padding_answer : List ℕ → List ℕ → Answer

@@ -8,19 +8,19 @@ use native.Mathlib.Omega.{arith}
 use borrow.Author.Tests.{eq-eqb, ne_eqb}
 use lib.Bits.{xor_zero_r}
 use lib.Dec.{eqb, lit<}
-use lib.ListN.{length, get_or}
 use Rattle.indexed.specs.List.{below, keep}
 use Rattle.register.specs.Shift.{shifts}
 use Rattle.register.specs.Xor.{◌⊕◌}
 use Rattle.register.proofs.Held.{held_lt}
 use Rattle.register.proofs.Parity.{sum_digits}
 use Rattle.register.proofs.Shift.{shifts_add}
-use Rattle.answer.specs.Answer.{delivered, refused}
+use Rattle.std.specs.Prelude.{Result, Ok, Err}
+use Rattle.answer.specs.Answer.{Answer, delivered, refused, refused_for}
 use Rattle.cyclic.specs.Constants.{feedback, offset}
 use Rattle.cyclic.proofs.Constants.{exponent_of_X}
 use Rattle.record800.specs.Read.{figures_of, wrong, check_read, error_pattern, longitudinal_read, wrong_parity, wrong_count, holds, one_of, judged_answer}
-use Rattle.judge800.specs.Told.{FoundIs}
-use Rattle.judge800.specs.declared.track.Found.{Found}
+use Rattle.judge800.specs.Told.{one_found, reason_of}
+use Rattle.judge800.specs.declared.track.Unlocated.{Unlocated}
 use Rattle.scan800.specs.Told.{GatheredAre}
 use Rattle.scan800.specs.declared.gather.Gathered.{Gathered}
 use Rattle.record800.proofs.Candidate.{wrong_lt, no_pattern, even_wrong}
@@ -40,6 +40,17 @@ module _ (n : ℕ) (l : List ℕ) where
       ap (shifts 9 feedback 9) e
       ∙ sym (shifts_add 9 feedback 9 8 (error_pattern n l))
       ∙ exponent_of_X.identity (error_pattern n l) pattern_lt
+
+  -- what is told of the track that is found, and of none
+  abbrev pub told_found : Result ℕ Unlocated → Answer
+  told_found (Ok track) = delivered (figures_of n track (wrong_count n l))
+  told_found (Err unlocated) = refused_for (reason_of unlocated) 0
+
+  told_one : (tracks : List ℕ) → one_of n l tracks ≡ told_found (one_found tracks)
+  unfolding one_of
+  told_one [] = refl
+  told_one (j ∷ []) = refl
+  told_one (i ∷ j ∷ more) = refl
 
   -- ---- no parity is wrong
 
@@ -68,29 +79,14 @@ module _ (n : ℕ) (l : List ℕ) where
         ap (λ (t : Bool). cond t (cond (holds n l 0) (delivered (figures_of n 9 0)) (refused 7 0)) (one_of n l (keep (holds n l) (below 9))))
         (ne_eqb (wrong_count n l) 0 some)
 
-    -- by the number of tracks that hold
-    by_count : (tracks : List ℕ) → (length tracks ≡ 0 → one_of n l tracks ≡ refused 7 0)
-        × (1 < length tracks → one_of n l tracks ≡ refused 8 0)
-        × (length tracks ≡ 1 → one_of n l tracks ≡ delivered (figures_of n (get_or tracks 0 9) (wrong_count n l)))
-    unfolding one_of
-    by_count [] = (λ e. refl, λ h. absurd (omega arith), λ e. absurd (omega arith))
-    by_count (j ∷ []) = (λ e. absurd (omega arith), λ h. absurd (omega arith), λ e. refl)
-    by_count (i ∷ j ∷ more) = (λ e. absurd (omega arith), λ h. refl, λ e. absurd (omega arith))
-
-    pub none_answer : length (keep (holds n l) (below 9)) ≡ 0 → judged_answer n l ≡ refused 7 0
-    none_answer e = kept_answer ∙ (by_count (keep (holds n l) (below 9))).0 e
-
-    pub several_answer : 1 < length (keep (holds n l) (below 9)) → judged_answer n l ≡ refused 8 0
-    several_answer h = kept_answer ∙ (by_count (keep (holds n l) (below 9))).1 h
-
-    pub one_answer : length (keep (holds n l) (below 9)) ≡ 1
-        → judged_answer n l ≡ delivered (figures_of n (get_or (keep (holds n l) (below 9)) 0 9) (wrong_count n l))
-    one_answer e = kept_answer ∙ (by_count (keep (holds n l) (below 9))).2 e
+    -- by the tracks that hold: the one, or why there is no single one
+    pub found_answer : (found : Result ℕ Unlocated) → found ≡ one_found (keep (holds n l) (below 9)) → judged_answer n l ≡ told_found found
+    found_answer found e = kept_answer ∙ told_one (keep (holds n l) (below 9)) ∙ ap told_found (sym e)
 
   -- the tracks that the code tries are those that hold
-  pub found_hold : (sums : Gathered) (pattern : ℕ) (found : Found) → GatheredAre sums n l → pattern ≡ shifts 9 feedback 9 sums.error
-      → FoundIs found (keep (λ j. eqb (sums.check ⊕ shifts 9 feedback j pattern) offset && eqb sums.longitudinal (sums.wrong % 2 * 2 ^ j)) (below 9))
-      → FoundIs found (keep (holds n l) (below 9))
+  pub found_hold : (sums : Gathered) (pattern : ℕ) (found : Result ℕ Unlocated) → GatheredAre sums n l → pattern ≡ shifts 9 feedback 9 sums.error
+      → found ≡ one_found (keep (λ j. eqb (sums.check ⊕ shifts 9 feedback j pattern) offset && eqb sums.longitudinal (sums.wrong % 2 * 2 ^ j)) (below 9))
+      → found ≡ one_found (keep (holds n l) (below 9))
   unfolding holds
   found_hold sums pattern found are is tried =
       simp (are.0, is ∙ pattern_back sums.error are.1, are.2, ap (λ (w : ℕ). w % 2) are.3 ∙ sym parity_of_count) at tried

@@ -9,8 +9,7 @@ use native.Mathlib.Omega.{arith}
 use borrow.Author.Tests.{eq-eqb, ne_eqb}
 use lib.Dec.{lit<}
 use lib.ListN.{length, get_or}
-use Rattle.indexed.specs.List.{tabulate, total}
-use Rattle.indexed.proofs.Tabulate.{length_tabulate, ruled}
+use Rattle.indexed.specs.List.{total}
 use Rattle.register.specs.Parity.{parity}
 use Rattle.register.specs.Held.{held}
 use Rattle.register.specs.Shift.{shifts}
@@ -50,28 +49,23 @@ module _ {backward : Bool} {characters : List ℕ} (passes : Passes backward cha
   pub few_wrong : (k : ℕ) {count : ℕ} → count ≡ total k (wrong n l) → k ≤ n + 2 → count ≤ 2050
   few_wrong k e h = omega (arith, count_le n l k, lengths_within backward characters passes)
 
-  -- ---- by one look-up in the lent table of parities
+  -- ---- whether a character's parity is wrong, by its place
 
-  module _ {table : List ℕ} (rule : table ≡ tabulate 512 parity) where
-    -- each character has its entry, and that is its parity
-    pub in_table : (k : ℕ) {character : ℕ} → character ≡ get_or l k 0 → character < length table
-    in_table k e = rw (e, rule, length_tabulate 512 parity) (picture_below backward characters passes k)
+  -- a character has nine bits
+  pub nine_bits : (k : ℕ) {character : ℕ} → character ≡ get_or l k 0 → character < 512
+  nine_bits k e = rw e (picture_below backward characters passes k)
 
-    looked_up : (k : ℕ) {character : ℕ} → character ≡ get_or l k 0 → get_or table character 0 ≡ parity (get_or l k 0)
-    looked_up k e = ap (λ (x : ℕ). get_or table x 0) e ∙ ruled table 512 parity rule (get_or l k 0) 0 (picture_below backward characters passes k)
+  pub data_wrong : (k : ℕ) {character p : ℕ} → character ≡ get_or l k 0 → p ≡ parity character → k < n → p ⊕ 1 ≡ wrong n l k
+  unfolding wrong
+  data_wrong k e is h = ap₂ ◌⊕◌ (is ∙ ap parity e) (sym (expected_odd n l k h))
 
-    -- whether a character's parity is wrong, by its place
-    pub data_wrong : (k : ℕ) {character : ℕ} → character ≡ get_or l k 0 → k < n → get_or table character 0 ⊕ 1 ≡ wrong n l k
-    unfolding wrong
-    data_wrong k e h = ap₂ ◌⊕◌ (looked_up k e) (sym (expected_odd n l k h))
+  pub check_wrong : {character p : ℕ} → character ≡ get_or l n 0 → p ≡ parity character → p ⊕ (n + 1) % 2 ≡ wrong n l n
+  unfolding wrong expected_parity
+  check_wrong e is = ap₂ (λ (q : ℕ) (b : Bool). q ⊕ cond b ((n + 1) % 2) 1) (is ∙ ap parity e) (sym (eq-eqb n n refl))
 
-    pub check_wrong : {character : ℕ} → character ≡ get_or l n 0 → get_or table character 0 ⊕ (n + 1) % 2 ≡ wrong n l n
-    unfolding wrong expected_parity
-    check_wrong e = ap₂ (λ (p : ℕ) (b : Bool). p ⊕ cond b ((n + 1) % 2) 1) (looked_up n e) (sym (eq-eqb n n refl))
-
-    pub last_wrong : {character : ℕ} → character ≡ get_or l (n + 1) 0 → get_or table character 0 ⊕ 1 ≡ wrong n l (n + 1)
-    unfolding wrong expected_parity
-    last_wrong e = ap₂ (λ (p : ℕ) (b : Bool). p ⊕ cond b ((n + 1) % 2) 1) (looked_up (n + 1) e) (sym (ne_eqb (n + 1) n (λ q. omega arith)))
+  pub last_wrong : {character p : ℕ} → character ≡ get_or l (n + 1) 0 → p ≡ parity character → p ⊕ 1 ≡ wrong n l (n + 1)
+  unfolding wrong expected_parity
+  last_wrong e is = ap₂ (λ (q : ℕ) (b : Bool). q ⊕ cond b ((n + 1) % 2) 1) (is ∙ ap parity e) (sym (ne_eqb (n + 1) n (λ q. omega arith)))
 
   -- ---- the registers and sums
 

@@ -1,2 +1,3 @@
 pub mod Gathering
 pub mod Deciding
+pub mod Passing

@@ -1,22 +1,24 @@
 -- What the code tells of a reading, and what it has gathered of it.
 -- Assumes nothing.
-use Rattle.std.specs.Prelude.{ℕ, List, ◌≡◌}
+use Rattle.std.specs.Prelude.{ℕ, List, Option, Result, ◌≡◌, unwrap_or}
 use Rattle.register.specs.Shift.{shifts}
-use Rattle.answer.specs.Answer.{Answer, delivered, told_refusal}
-use Rattle.cyclic.specs.Constants.{feedback, ahead}
+use Rattle.answer.specs.Answer.{Answer, told}
+use Rattle.answer.specs.declared.Refusal.{Refusal}
+use Rattle.cyclic.specs.Constants.{feedback, ahead, tracks}
 use Rattle.record800.specs.Read.{figures_of, check_read, error_pattern, longitudinal_read, wrong_count}
 use Rattle.scan800.specs.declared.Figures.{Figures}
-use Rattle.scan800.specs.declared.Read.{Read}
-use Rattle.scan800.specs.declared.Read.TheVariants.{Delivered, Refused}
 use Rattle.scan800.specs.declared.gather.Gathered.{Gathered}
+
+-- the corrected track, or 9 if there is none
+abbrev pub track_told : Option ℕ → ℕ
+track_told track = unwrap_or track tracks
 
 -- the figures of a delivery: n, the corrected track, how many characters differ, and how many in each track
 abbrev pub figures_told : Figures → List ℕ
-figures_told figures = figures_of figures.length figures.track figures.changes
+figures_told figures = figures_of figures.length (track_told figures.track) figures.changes
 
-abbrev pub told_read : Read → Answer
-told_read (Delivered figures) = delivered (figures_told figures)
-told_read (Refused r) = told_refusal r
+abbrev pub told_read : Result Figures Refusal → Answer
+told_read = told figures_told
 
 -- the registers and sums of a reading: the error-pattern register holds X^8 E
 abbrev pub GatheredAre : Gathered → ℕ → List ℕ → Type 0

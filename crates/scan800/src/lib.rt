@@ -3,53 +3,48 @@
 
 #![tactic(auto)]
 
-mod characters;
 mod gather;
 mod judge;
-pub mod parities;
+mod parity;
+mod passed;
+mod reading;
 
 ghost use Rattle.std.specs.Prelude.{◌≡◌};
 ghost use Rattle.record800.specs.Read.{track_changes};
+ghost use Rattle.scan800.specs.Told.{track_told};
 
-use answer::Refusal;
-pub use characters::forward_character;
 use cyclic::Code800;
 pub use judge::{data_length, judge_record};
+pub use passed::Passed;
+pub use reading::Reading;
 
-// The figures of a delivery: the data's length, the corrected track, 9 if nothing differs, and how many
+// The figures of a delivery: the data's length, the corrected track, none if nothing differs, and how many
 // characters of the reading differ from the record. They tell the changes of each track too.
-#[derive(Drop)]
+#[derive(Clone, Copy)]
 pub struct Figures {
     pub length: usize,
-    pub track: usize,
+    pub track: Option<usize>,
     pub changes: usize,
 }
 
 impl Figures {
     // The changes of each track, track 0 first: all of them are in the corrected one.
     pub fn counts(self) -> [usize; Code800::TRACKS]
-        ensures { result ≡ track_changes self.track self.changes }
+        ensures { result ≡ track_changes (track_told self.track) self.changes }
     {
-        let mut counts = [0usize; Code800::TRACKS];
-        self.store_counts(&mut counts);
+        let mut counts = [0; Code800::TRACKS];
+        if let Some(track) = self.track {
+            if track < Code800::TRACKS {
+                counts[track] = self.changes;
+            }
+        }
         counts
     }
 
     // Stores the changes of each track.
     pub fn store_counts(self, counts: &mut [usize; Code800::TRACKS])
-        ensures { counts.new ≡ track_changes self.track self.changes }
+        ensures { counts.new ≡ track_changes (track_told self.track) self.changes }
     {
-        *counts = [0; Code800::TRACKS];
-        let track = self.track;
-        if track < Code800::TRACKS {
-            counts[track] = self.changes;
-        }
+        *counts = self.counts();
     }
-}
-
-// What reading a record answers.
-#[derive(Drop)]
-pub enum Read {
-    Delivered(Figures),
-    Refused(Refusal),
 }

@@ -6,16 +6,14 @@
 
 mod pair;
 
-ghost use Rattle.std.specs.Prelude.{◌≡◌, ◌≤◌};
-ghost use Rattle.rectangular.specs.Constants.{most_groups};
+ghost use Rattle.std.specs.Prelude.{◌≡◌};
 ghost use Rattle.sense_log.specs.Log.{bit_map_length};
 
 pub use pair::pair_at;
 
 // The bytes of the bit map of so many groups.
 pub fn bit_map_length(groups: usize) -> usize
-    requires { groups ≤ most_groups }
     ensures { result ≡ bit_map_length groups }
 {
-    (groups + 7) / 8
+    groups.div_ceil(8)
 }

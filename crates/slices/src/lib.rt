@@ -3,7 +3,8 @@
 
 #![tactic(auto)]
 
-ghost use Rattle.std.specs.Prelude.{◌≡◌, ◌<◌};
+ghost use Rattle.std.specs.Prelude.{◌≡◌, ◌<◌, length};
+ghost use Rattle.indexed.specs.List.{index_in};
 ghost use Rattle.slices.specs.Above.{first_above};
 ghost use Rattle.slices.specs.Turned.{turned_place};
 ghost use Rattle.slices.specs.Union.{union_of};
@@ -13,26 +14,17 @@ pub fn union(values: &[u16]) -> u16
     ensures { result ≡ union_of values.now }
 {
     let mut bits: u16 = 0;
-    let mut k = 0;
-    while k < values.len() {
-        bits = bits | values[k];
-        k += 1;
+    for value in values {
+        bits |= *value;
     }
     bits
 }
 
-// The index of the first value above the limit, or the number of values where none is.
-pub fn first_above(values: &[u16], limit: u16) -> usize
-    ensures { result ≡ first_above limit values.now }
+// The index of the first value above the limit.
+pub fn first_above(values: &[u16], limit: u16) -> Option<usize>
+    ensures { result ≡ index_in (length values.now) (first_above limit values.now) }
 {
-    let mut i = 0;
-    while i < values.len() {
-        if values[i] > limit {
-            return i;
-        }
-        i += 1;
-    }
-    i
+    values.iter().position(|value| *value > limit)
 }
 
 // The place of element k of the forward picture among the lent ones, of which a backward reading has the last

@@ -1,10 +1,9 @@
 -- What is told of a read or a write that failed.
 -- Assumes nothing.
-use Rattle.std.specs.Prelude.{ℕ, cond, List, [], ◌++◌, eqb}
+use Rattle.std.specs.Prelude.{ℕ, cond, List, [], ◌++◌, eqb, Result, Ok, Err}
 use Rattle.page.specs.Ascii.{ascii}
 use Rattle.page.specs.Page.{decimal_text}
-use Rattle.transfer.specs.declared.Ended.{Ended}
-use Rattle.transfer.specs.declared.Ended.TheVariants.{After, Failed}
+use Rattle.transfer.specs.declared.Failure.{Failure}
 
 -- what the usual errors mean: EINTR, EIO, EBADF, EAGAIN, EISDIR, EFBIG, ENOSPC, EPIPE
 unfoldable pub meaning_text : ℕ → List ℕ
@@ -28,6 +27,6 @@ abbrev pub unread_text : ℕ → List ℕ
 unread_text number = ascii "cannot read standard input: " ++ error_text number
 
 -- of an output of so many bytes
-abbrev pub unwritten_text : Ended → ℕ → List ℕ
-unwritten_text (After count) all = ascii "cannot write standard output: " ++ cut_text count all
-unwritten_text (Failed number) all = ascii "cannot write standard output: " ++ error_text number
+abbrev pub unwritten_text : Result ℕ Failure → ℕ → List ℕ
+unwritten_text (Ok count) all = ascii "cannot write standard output: " ++ cut_text count all
+unwritten_text (Err failure) all = ascii "cannot write standard output: " ++ error_text failure.number

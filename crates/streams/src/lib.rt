@@ -8,16 +8,13 @@ mod sink;
 mod source;
 
 pub use message::unread;
-pub use sink::{finish, finish_behind, is_whole, pass_on};
+pub use sink::{finish, is_whole, pass_on};
 pub use source::read;
-pub use transfer::Ended;
+pub use transfer::Failure;
 
-// How often in a row a call that signals interrupt is made: a program has to end (D24).
-pub(crate) const TRIES: u32 = 1000000;
-
-// What a program has on its page, so many bytes: its output, or a message for standard error.
-#[derive(Drop)]
+// What a program has on its page: its output, or a message for standard error.
+#[derive(Clone, Copy, PartialEq, Eq)]
 pub enum Text {
-    Output(usize),
-    Message(usize),
+    Output,
+    Message,
 }

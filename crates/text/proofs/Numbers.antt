@@ -1,74 +1,61 @@
--- A number of the text: one byte more, where it ends, and how large its value is.
+-- A number of the text: its bytes up to the first that separates, entered one after another; and where it ends.
 -- Assumes nothing.
-use Prim.Native.Nat.{ℕ, ◌+◌, ◌*◌, ◌<◌, ◌≤◌}
-use mathlib.Core.Path.{◌≡◌, refl, sym, ap}
-use mathlib.Core.Bool.{Bool, true, false, cond}
-use mathlib.Core.List.{List, [], ◌∷◌}
-use native.Mathlib.Nat.{min-le_right}
-use native.Mathlib.Numerals.{add-one}
-use native.Mathlib.Omega.{arith}
-use lib.Dec.{eqb}
-use lib.ListN.{length, get_or, drop, length-drop}
-use lib.Seq.{drop-cons, drop-length}
-use Rattle.text.specs.declared.number.Class.{Class}
-use Rattle.text.specs.declared.number.Class.TheVariants.{Digit, Blank, Newline, Other}
+use Rattle.std.proofs.Common.{◌≡◌, refl, sym, ap, ◌∙◌, ℕ, ◌+◌, ◌<◌, ◌≤◌, suc, ◌⊎◌, Bool, not, true, false, cond, List, [], ◌∷◌, length, get_or, take, drop, Ok, inl, inr, Result, Option, add-zero, arith, length-drop}
+use Rattle.std.specs.List.{fold, position, position_or_len}
+use Rattle.std.proofs.lemmas.Bool.{cases_lt}
+use Rattle.std.proofs.lemmas.List.Sums.{prefix_len-le-length, prefix_len-drop_yes}
+use borrow.Author.Tests.{lt-ltb, le-ltb}
+use Rattle.std.specs.Option.{unwrap_or}
+use Rattle.text.specs.declared.number.NumberFault.{NumberFault}
 use Rattle.text.specs.declared.number.Number.{Number}
-use Rattle.text.specs.Number.{class_of, separating, entered_class, entered_byte, scanned, not_aNumber}
+use Rattle.text.specs.Number.{separating, entered_byte, scanned}
 
--- an entered number is below 65,538
-class_le : (v : ℕ) (k : Class) → entered_class v k ≤ not_aNumber
-unfolding entered_class
-class_le v (Digit d) = omega (arith, min-le_right (10 * v + d) 65536)
-class_le v Blank = omega arith
-class_le v Newline = omega arith
-class_le v Other = omega arith
-
-pick_le : (b : Bool) (x : ℕ) → x ≤ not_aNumber → cond b not_aNumber x ≤ not_aNumber
-pick_le true x h = omega arith
-pick_le false x h = h
-
-pub entered_le : (v byte : ℕ) → entered_byte v byte ≤ not_aNumber
-unfolding entered_byte
-entered_le v byte = pick_le (eqb v not_aNumber) _ (class_le v (class_of byte))
-
--- where a byte separates, the number ends; elsewhere the byte is entered
-pub scanned_stop : (text : List ℕ) (v i : ℕ) → i < length text → separating (class_of (get_or text i 0)) ≡ true → scanned v i (drop i text) ≡ record { value = v; end = i }
+scanned_is : (value : Result ℕ NumberFault) (at : ℕ) (l : List ℕ) → scanned value at l ≡ record { value = fold entered_byte value (take (position_or_len separating l) l); end = at + position_or_len separating l }
 unfolding scanned
-scanned_stop text v i h s = rw (drop-cons text i 0 h) (rw s refl)
-
-pub scanned_step : (text : List ℕ) (v i : ℕ) → i < length text → separating (class_of (get_or text i 0)) ≡ false → scanned v i (drop i text) ≡ scanned (entered_byte v (get_or text i 0)) (i + 1) (drop (i + 1) text)
-unfolding scanned
-scanned_step text v i h s =
-    rw (drop-cons text i 0 h) (rw s (ap (λ (n : ℕ). scanned (entered_byte v (get_or text i 0)) (i + 1) (drop n text)) (sym (add-one i))))
-
-pub scanned_none : (text : List ℕ) (v i : ℕ) → i ≡ length text → scanned v i (drop i text) ≡ record { value = v; end = i }
-unfolding scanned
-scanned_none text v i h = rw (h, drop-length) refl
-
--- a number ends within its text
-pub scanned_from : (v at : ℕ) (l : List ℕ) → at ≤ (scanned v at l).end
-unfolding scanned
-scanned_from v at [] = omega arith
-scanned_from v at (b ∷ bs) = from (separating (class_of b)) v at (scanned (entered_byte v b) (at + 1) bs) (scanned_from (entered_byte v b) (at + 1) bs)
+scanned_is value at [] = ap (λ (end : ℕ). record { value = value; end = end }) (sym (add-zero at))
+scanned_is value at (byte ∷ bytes) = by (separating byte) (scanned_is (entered_byte value byte) (at + 1) bytes)
   where
-    from : (s : Bool) (v at : ℕ) (n : Number) → at + 1 ≤ n.end → at ≤ (cond s (record { value = v; end = at }) n).end
-    from true v at n h = omega arith
-    from false v at n h = omega arith
+    by : (b : Bool)
+        → scanned (entered_byte value byte) (at + 1) bytes ≡ record { value = fold entered_byte (entered_byte value byte) (take (position_or_len separating bytes) bytes); end = at + 1 + position_or_len separating bytes }
+        → cond b (record { value = value; end = at }) (scanned (entered_byte value byte) (at + 1) bytes)
+        ≡ record { value = fold entered_byte value (take (cond (not b) (1 + position_or_len separating bytes) 0) (byte ∷ bytes)); end = at + cond (not b) (1 + position_or_len separating bytes) 0 }
+    by true e = ap (λ (end : ℕ). record { value = value; end = end }) (sym (add-zero at))
+    by false e =
+        let k = position_or_len separating bytes in
+        let one_more : 1 + k ≡ suc k = omega arith in
+        let behind : at + 1 + k ≡ at + (1 + k) = omega arith in
+        rw (e, behind, one_more) refl
 
-pub scanned_within : (v at : ℕ) (l : List ℕ) → (scanned v at l).end ≤ at + length l
-unfolding scanned
-scanned_within v at [] = omega arith
-scanned_within v at (b ∷ bs) = within (separating (class_of b)) (scanned_within (entered_byte v b) (at + 1) bs)
+-- a number ends at the first byte that separates, or where the text ends
+size_is : (l : List ℕ) → unwrap_or (position separating l) (length l) ≡ position_or_len separating l
+size_is l = by (cases_lt (position_or_len separating l) (length l))
   where
-    within : (s : Bool) → (scanned (entered_byte v b) (at + 1) bs).end ≤ at + 1 + length bs → (cond s (record { value = v; end = at }) (scanned (entered_byte v b) (at + 1) bs)).end ≤ at + length (b ∷ bs)
-    within true h = omega arith
-    within false h = omega arith
+    by : (position_or_len separating l < length l) ⊎ (length l ≤ position_or_len separating l) → unwrap_or (position separating l) (length l) ≡ position_or_len separating l
+    by (inl h) = rw (lt-ltb _ _ h) refl
+    by (inr h) = let most = prefix_len-le-length (λ b. not (separating b)) l in rw (le-ltb _ _ h) (omega arith)
 
--- the number that begins at a byte that does not separate: it passes that byte, and ends within the text
-pub number_ahead : (text : List ℕ) (i : ℕ) (n : Number) → i < length text → separating (class_of (get_or text i 0)) ≡ false → n ≡ scanned 0 i (drop i text) → i + 1 ≤ n.end
-number_ahead text i n h s e =
-    rw (e, scanned_step text 0 i h s) (scanned_from (entered_byte 0 (get_or text i 0)) (i + 1) (drop (i + 1) text))
+module _ (text rest : List ℕ) (at size : ℕ) (is : rest ≡ drop at text) (place : Option ℕ) (placed : place ≡ position separating rest) (sized : size ≡ unwrap_or place (length rest)) where
+  found : size ≡ position_or_len separating rest
+  found = sized ∙ ap (λ (o : Option ℕ). unwrap_or o (length rest)) placed ∙ size_is rest
 
-pub number_within : (text : List ℕ) (i : ℕ) (n : Number) → i < length text → n ≡ scanned 0 i (drop i text) → n.end ≤ length text
-number_within text i n h e =
-    rw e (omega (arith, scanned_within 0 i (drop i text), length-drop i text))
+  -- the number ends within what is left of the text
+  pub number_within : size ≤ length rest
+  number_within = omega (arith, found, prefix_len-le-length (λ b. not (separating b)) rest)
+
+  -- the number that begins at a place, from its size and its value
+  pub number_is : (value : Result ℕ NumberFault) → value ≡ fold entered_byte (Ok 0) (take size rest)
+      → record { value = value; end = at + size } ≡ scanned (Ok 0) at (drop at text)
+  number_is value hv =
+      rw (hv, found, ← is) (sym (scanned_is (Ok 0) at rest))
+
+-- a number that begins at a byte that does not separate passes that byte, and ends within the text
+pub number_ahead : (text : List ℕ) (i : ℕ) → i < length text → separating (get_or text i 0) ≡ false → i + 1 ≤ (scanned (Ok 0) i (drop i text)).end
+number_ahead text i h s =
+    let ends = ap (λ (n : Number). n.end) (scanned_is (Ok 0) i (drop i text)) in
+    let other : not (separating (get_or text i 0)) ≡ true = ap not s in
+    omega (arith, ends, prefix_len-drop_yes (λ b. not (separating b)) text i 0 h other)
+
+pub number_in : (text : List ℕ) (i : ℕ) → i < length text → (scanned (Ok 0) i (drop i text)).end ≤ length text
+number_in text i h =
+    let ends = ap (λ (n : Number). n.end) (scanned_is (Ok 0) i (drop i text)) in
+    omega (arith, ends, prefix_len-le-length (λ b. not (separating b)) (drop i text), length-drop i text)

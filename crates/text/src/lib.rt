@@ -5,3 +5,4 @@ mod line;
 mod number;
 
 pub use line::{LineFault, Row, line_at};
+pub use number::NumberFault;

@@ -1,39 +1,21 @@
 // A line of numbers out of text.
 ghost use Rattle.std.specs.Prelude.{◌≡◌, ◌≤◌, length, set};
-ghost use Rattle.text.specs.Line.{row_of, fault_of, line_at};
+ghost use Rattle.text.specs.Line.{line_at, row_told};
 
-use crate::number::{TOO_LARGE, number_at, separates};
+use crate::number::{NumberFault, number_at, separates};
 
-// What is wrong with a line.
-#[derive(Drop)]
-pub enum LineFault {
-    Nothing,
-    NotANumber,
-    TooLarge,
-}
-
-// A line of the text: how many numbers it has, the place of its end, and what is wrong with it.
-#[derive(Drop)]
+// So much of a line: how many numbers it has, and the place of its end, or of what is wrong with it.
+#[derive(Clone, Copy)]
 pub struct Row {
     pub count: usize,
     pub end: usize,
-    pub fault: LineFault,
 }
 
-fn line(count: usize, end: usize, fault: LineFault) -> Row
-    ensures { result ≡ row_of count end fault }
-{
-    Row { count, end, fault }
-}
-
-// What is wrong with a number that is none, or is too large.
-fn fault_of(value: u32) -> LineFault
-    ensures { result ≡ fault_of value }
-{
-    if value == TOO_LARGE {
-        return LineFault::TooLarge;
-    }
-    LineFault::NotANumber
+// Why a line ends before its end, and what was read of it.
+#[derive(Clone, Copy)]
+pub struct LineFault {
+    pub cause: NumberFault,
+    pub before: Row,
 }
 
 // Stores a value, where there is space for it.
@@ -47,29 +29,33 @@ fn put(values: &mut [u16], at: usize, value: u16)
 
 // Reads the line that begins at a place. Its numbers go to the front of the row, as many as that holds; the
 // first number that is none, or is above 65,535, ends it.
-pub fn line_at(text: &[u8], at: usize, row: &mut [u16]) -> Row
+pub fn line_at(text: &[u8], at: usize, row: &mut [u16]) -> Result<Row, LineFault>
     requires { at ≤ length text.now }
     ensures line { result ≡ (line_at text.now at row.old).0 }
     ensures row { row.new ≡ (line_at text.now at row.old).1 }
-    ensures within { (at ≤ result.end) × (result.end ≤ length text.now) × (result.count ≤ result.end) × (length row.new ≡ length row.old) }
+    ensures within { (at ≤ (row_told result).end) × ((row_told result).end ≤ length text.now) × ((row_told result).count ≤ (row_told result).end) × (length row.new ≡ length row.old) }
 {
     let mut count = 0;
     let mut end = at;
+    // By hand, since a turn passes a blank or a whole number, and the place is told too.
     while end < text.len() {
         if text[end] == b'\n' {
-            return line(count, end, LineFault::Nothing);
+            break;
         }
         if separates(text[end]) {
             end += 1;
             continue;
         }
         let number = number_at(text, end);
-        if number.value >= TOO_LARGE {
-            return line(count, end, fault_of(number.value));
+        match number.value {
+            Ok(value) => put(row, count, value),
+            Err(cause) => {
+                let before = Row { count, end };
+                return Err(LineFault { cause, before });
+            }
         }
-        put(row, count, number.value as u16);
         count += 1;
         end = number.end;
     }
-    line(count, end, LineFault::Nothing)
+    Ok(Row { count, end })
 }

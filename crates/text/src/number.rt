@@ -1,101 +1,67 @@
-// A number out of text. Every step is an equation; a number above 65,535 and what is no number are values
-// of their own, so that a line is told and nothing is cut off.
-ghost use Rattle.std.specs.Prelude.{◌≡◌, ◌≤◌, min, length, drop};
-ghost use Rattle.text.specs.Number.{class_of, separating, entered_byte, scanned, not_aNumber};
+// A number out of text. Every step is an equation; a number above 65,535 and what is no number are faults, so that a line is told
+// and nothing is cut off.
+ghost use Rattle.std.specs.Prelude.{◌≡◌, ◌≤◌, length, drop, Ok};
+ghost use Rattle.std.specs.List.{fold, position};
+ghost use Rattle.text.specs.Number.{separating, entered_byte, scanned};
 
-// What a byte of the text is.
-#[derive(Drop)]
-enum Class {
-    Digit(u8),
-    Blank,
-    Newline,
-    Other,
+// Why a number is none that is wanted: it has a byte that is no digit, or it is above 65,535, which no word, character or map is.
+#[derive(Clone, Copy, PartialEq, Eq)]
+pub enum NumberFault {
+    NotANumber,
+    TooLarge,
 }
-
-// A number above 65,535, which no word, character or map is.
-pub(crate) const TOO_LARGE: u32 = 65536;
-// No number.
-const NOT_A_NUMBER: u32 = 65537;
 
 // A number of the text, and the place behind it.
 #[derive(Drop)]
 pub(crate) struct Number {
-    pub value: u32,
+    pub value: Result<u16, NumberFault>,
     pub end: usize,
 }
 
-// The class of a byte. A carriage return counts as blank, so that a text from another machine is read.
-fn class_of(byte: u8) -> Class
-    ensures { result ≡ class_of byte }
-{
-    if byte == b'\n' {
-        return Class::Newline;
-    }
-    if byte == b' ' {
-        return Class::Blank;
-    }
-    if byte == b'\t' {
-        return Class::Blank;
-    }
-    if byte == b'\r' {
-        return Class::Blank;
-    }
-    if byte < b'0' {
-        return Class::Other;
-    }
-    if byte < 58 {
-        return Class::Digit(byte - b'0');
-    }
-    Class::Other
-}
-
-// Whether a number ends in front of this byte.
+// Whether a number ends in front of this byte. A carriage return counts as blank, so that a text from another machine is read.
 pub(crate) fn separates(byte: u8) -> bool
-    ensures { result ≡ separating (class_of byte) }
+    ensures { result ≡ separating byte }
 {
-    match class_of(byte) {
-        Class::Newline => true,
-        Class::Blank => true,
-        Class::Digit(_) => false,
-        Class::Other => false,
-    }
+    matches!(byte, b'\n' | b' ' | b'\t' | b'\r')
 }
 
-fn least(a: u32, b: u32) -> u32
-    ensures { result ≡ min a b }
+// A byte entered into a number. However long the number is, a further digit leaves it too large.
+#[tactic(auto, unfolding(crate::specs::Number::entered_byte))]
+fn entered(number: Result<u16, NumberFault>, byte: u8) -> Result<u16, NumberFault>
+    ensures { result ≡ entered_byte number byte }
 {
-    if a < b { a } else { b }
+    if !byte.is_ascii_digit() {
+        return Err(NumberFault::NotANumber);
+    }
+    let value = 10 * u32::from(number?) + u32::from(byte - b'0');
+    u16::try_from(value).map_err(|_| NumberFault::TooLarge)
 }
 
-// A byte entered into a number. The value stays within bounds however long the number is.
-fn entered(value: u32, byte: u8) -> u32
-    requires { value ≤ not_aNumber }
-    ensures { result ≡ entered_byte value byte }
+// The place of the first byte that separates.
+fn separator(text: &[u8]) -> Option<usize>
+    ensures { result ≡ position separating text.now }
 {
-    if value == NOT_A_NUMBER {
-        return NOT_A_NUMBER;
-    }
-    match class_of(byte) {
-        Class::Digit(digit) => least(10 * value + digit as u32, TOO_LARGE),
-        Class::Blank => NOT_A_NUMBER,
-        Class::Newline => NOT_A_NUMBER,
-        Class::Other => NOT_A_NUMBER,
-    }
+    text.iter().position(|byte| separates(*byte))
+}
+
+// The number that bytes make.
+fn value_of(bytes: &[u8]) -> Result<u16, NumberFault>
+    ensures { result ≡ fold entered_byte (Ok 0) bytes.now }
+{
+    bytes
+        .iter()
+        .fold(Ok(0), |number, byte| entered(number, *byte))
 }
 
 // The number that begins at a place, up to the next blank, the end of the line or the end of the text.
 pub(crate) fn number_at(text: &[u8], at: usize) -> Number
     requires { at ≤ length text.now }
-    ensures { result ≡ scanned 0 at (drop at text.now) }
+    ensures { result ≡ scanned (Ok 0) at (drop at text.now) }
 {
-    let mut value: u32 = 0;
-    let mut end = at;
-    while end < text.len() {
-        if separates(text[end]) {
-            return Number { value, end };
-        }
-        value = entered(value, text[end]);
-        end += 1;
+    let rest = &text[at..];
+    let size = separator(rest).unwrap_or(rest.len());
+    Number {
+        value: value_of(&rest[..size]),
+        end: at + size,
     }
-    Number { value, end }
 }

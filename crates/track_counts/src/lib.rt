@@ -3,10 +3,11 @@
 
 #![tactic(auto)]
 
-ghost use Rattle.std.specs.Prelude.{◌≡◌, ℕ, ◌+◌, ◌<◌};
+ghost use Rattle.std.specs.Prelude.{◌≡◌, ℕ, ◌+◌, ◌<◌, get_or};
 ghost use Rattle.indexed.specs.List.{total};
+ghost use Rattle.rectangular.specs.Constants.{tracks};
 ghost use Rattle.register.specs.Bit.{bit};
-ghost use Rattle.track_counts.specs.Counts.{counts_told, packed, Holds, HasRoom};
+ghost use Rattle.track_counts.specs.Counts.{fields, counts_told, packed, Holds, HasRoom};
 
 use rectangular::Code6250;
 
@@ -44,22 +45,26 @@ impl Counts {
     pub fn numbers(self) -> [usize; Code6250::TRACKS]
         ensures { result ≡ counts_told self }
     {
-        let low = self.low;
-        let high = self.high;
-        if low == 0 && high == 0 {
+        if self.low == 0 && self.high == 0 {
             return [0; Code6250::TRACKS];
         }
-        [
-            (low % 4096) as usize,
-            (low / 0x1000 % 4096) as usize,
-            (low / 0x1000000 % 4096) as usize,
-            (low / 0x1000000000 % 4096) as usize,
-            (low / 0x1000000000000 % 4096) as usize,
-            (high % 4096) as usize,
-            (high / 0x1000 % 4096) as usize,
-            (high / 0x1000000 % 4096) as usize,
-            (high / 0x1000000000 % 4096) as usize,
-        ]
+        let mut numbers = [0; Code6250::TRACKS];
+        for (track, number) in numbers.iter_mut().enumerate() {
+            *number = self.number(track);
+        }
+        numbers
+    }
+
+    // The number of one track.
+    fn number(&self, track: usize) -> usize
+        requires { track < tracks }
+        ensures { result ≡ get_or (counts_told self.now) track 0 }
+    {
+        if track < 5 {
+            part(self.low, track)
+        } else {
+            part(self.high, track - 5)
+        }
     }
 
     // Their sum: 4096 is one more than 4095, so that each number of twelve bits leaves itself.
@@ -68,6 +73,14 @@ impl Counts {
     {
         (self.low % 4095 + self.high % 4095) as usize
     }
+}
+
+// One of the five numbers that one holds.
+fn part(five: u64, k: usize) -> usize
+    requires { k < 5 }
+    ensures { result ≡ get_or (fields five) k 0 }
+{
+    ((five >> (12 * k)) % 4096) as usize
 }
 
 // Five bits, each in twelve bits of its own: of five copies that do not overlap the mask takes one bit each.

@@ -52,7 +52,7 @@ module _ (card : List ℕ) (next : Answer) where
       by false h r = absurd (never place r)
 
   -- what is delivered passed both
-  numbers_passed : (figures : List ℕ) → if_nine_numbers card next ≡ delivered figures → (length card ≡ 9) × (next ≡ delivered figures)
+  pub numbers_passed : (figures : List ℕ) → if_nine_numbers card next ≡ delivered figures → (length card ≡ 9) × (next ≡ delivered figures)
   unfolding if_nine_numbers
   numbers_passed figures e = let held = test_held (eqb (length card) 9) next 12 0 figures e in (eqb-true _ 9 held.0, held.1)
 
@@ -60,6 +60,16 @@ module _ (card : List ℕ) (next : Answer) where
   unfolding if_none_wrong
   right_passed figures e =
       let failed = test_failed (ltb (first_wrong card) 9) next 11 (suc (first_wrong card)) figures e in (ltb-false _ 9 failed.0, failed.1)
+
+-- what is refused by 12 does not hang on what is asked next
+pub numbers_refused : (card figures : List ℕ) (next : Answer) (n p : ℕ) → if_nine_numbers card (delivered figures) ≡ refused n p
+    → if_nine_numbers card next ≡ refused n p
+unfolding if_nine_numbers
+numbers_refused card figures next n p e = by (eqb (length card) 9) e
+  where
+    by : (b : Bool) → cond b (delivered figures) (refused_for CardLength 0) ≡ refused n p → cond b next (refused_for CardLength 0) ≡ refused n p
+    by true e = absurd (not_both figures n p e)
+    by false e = e
 
 -- ---- nine words
 
@@ -98,19 +108,20 @@ module _ (source : List ℕ) (space : ℕ) where
         (passed.0, passed.1, passed.2, ltb-false _ 9 clean.0, cc)
 
     -- what is refused by 12, 1, 2 or 11 does not hang on the words
-    pub words_refused : (n p : ℕ) → if_nine_numbers card (if_nine_words (length source) space (if_none_wrong card (delivered []))) ≡ refused n p
+    pub words_refused : (figures : List ℕ) (n p : ℕ)
+        → if_nine_numbers card (if_nine_words (length source) space (if_none_wrong card (delivered figures))) ≡ refused n p
         → card_words_answer card source space ≡ refused n p
     unfolding card_words_answer if_nine_numbers if_nine_words if_none_wrong
-    words_refused n p e = by (eqb (length card) 9) (eqb (length source) 9) (leb 9 space) (ltb (first_wrong card) 9) e
+    words_refused figures n p e = by (eqb (length card) 9) (eqb (length source) 9) (leb 9 space) (ltb (first_wrong card) 9) e
       where
         asked : Bool → Bool → Bool → Bool → Answer → Answer
         asked s t u v next =
             cond s (cond t (cond u (cond v (refused_for CardContent (suc (first_wrong card))) next) (refused_for Space 0)) (refused_for Length 0))
             (refused_for CardLength 0)
 
-        by : (s t u v : Bool) → asked s t u v (delivered []) ≡ refused n p → asked s t u v (if_no_stray source (delivered [])) ≡ refused n p
+        by : (s t u v : Bool) → asked s t u v (delivered figures) ≡ refused n p → asked s t u v (if_no_stray source (delivered [])) ≡ refused n p
         by true true true true e = e
-        by true true true false e = absurd (not_both [] n p e)
+        by true true true false e = absurd (not_both figures n p e)
         by true true false v e = e
         by true false u v e = e
         by false t u v e = e

@@ -1,10 +1,14 @@
 -- The answers row by row: what a call tells where the tests before a check have passed and that check fails, or all have passed.
 -- Assumes nothing.
 use mathlib.Core.List.{List, []}
-use mathlib.Core.Path.{◌≡◌}
+use mathlib.Core.Path.{◌≡◌, sym, ap, ◌∙◌}
 use Prim.Native.Nat.{ℕ, suc, ◌<◌, ◌≤◌}
+use native.Mathlib.Omega.{arith}
 use borrow.Author.Tests.{eq-eqb, ne_eqb, le-leb, lt-leb, lt-ltb, le-ltb}
 use lib.ListN.{length}
+use Rattle.std.proofs.Common.{Some, None}
+use Rattle.indexed.specs.List.{index_in}
+use Rattle.indexed.proofs.Found.{found_index, found_none}
 use Rattle.answer.specs.Answer.{Answer, delivered, refused_for}
 use Rattle.answer.specs.declared.Reason.TheVariants.{Length, Space, StrayBits, CardContent, CardLength}
 use Rattle.slices.specs.Above.{first_above}
@@ -55,3 +59,12 @@ module _ (source : List ℕ) (space : ℕ) (nine : length source ≡ 9) (enough 
   pub words_delivered : 9 ≤ first_above 1023 source → words_answer source space ≡ delivered []
   unfolding words_answer if_nine_words if_no_stray
   words_delivered clean = simp (eq-eqb _ _ nine, le-leb _ _ enough, le-ltb _ _ clean)
+
+  -- as a search for the first stray word tells
+  pub words_found : (place : ℕ) → Some place ≡ index_in (length source) (first_above 1023 source) → words_answer source space ≡ refused_for StrayBits place
+  words_found place e =
+      let at = found_index (length source) (first_above 1023 source) place e in
+      words_stray (rw nine at at.1) ∙ ap (refused_for StrayBits) (sym at.0)
+
+  pub words_clean : None ≡ index_in (length source) (first_above 1023 source) → words_answer source space ≡ delivered []
+  words_clean e = words_delivered (omega (arith, nine, found_none (length source) (first_above 1023 source) e))

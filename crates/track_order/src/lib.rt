@@ -7,7 +7,7 @@
 
 // The order toward which numbers are moved: that of the physical tracks, on the head, or that of the algebraic ones, in the
 // code. Definitions and code go by it alike, so it stands below both.
-#[derive(Drop)]
+#[derive(Clone, Copy, PartialEq, Eq)]
 pub enum Toward {
     Physical,
     Algebraic,

@@ -1,1 +1,2 @@
-pub mod Moved
+pub mod Failure
+pub mod Came

@@ -1,89 +1,91 @@
-// What came of one read or one write.
+// One read or one write, made again where a signal came first.
 #![tactic(auto)]
 
 ghost use Rattle.std.specs.Prelude.{◌≡◌};
-ghost use Rattle.transfer.specs.Moved.{error_number, number_of, failed_by, Came, is_interrupted, ended_by};
+ghost use Rattle.std.specs.Io.{ReadsAtMost, WritesAtMost};
+ghost use Rattle.std.specs.Io.KnownBytes.{ReadConsumes, WriteAppends};
+ghost use Rattle.transfer.specs.Failure.{error_number, number_of};
+ghost use Rattle.transfer.specs.Came.{failure_of, moved_by};
 
 use std::io;
+use std::io::{Read, Write};
 
-// So many bytes were moved; none was, which for a read is the end of the input; a signal came first, and the call is to
-// be made again; or it failed, with the number of the error.
-#[derive(Clone, Copy)]
-pub enum Moved {
-    Bytes(usize),
-    Nothing,
-    Interrupted,
-    Failed(u32),
-}
-
-// How reading or writing ended: after so many bytes, or in an error, with its number.
-#[derive(Clone, Copy)]
-pub enum Ended {
-    After(usize),
-    Failed(u32),
+// A read or a write that failed, with the number of the error as the system has it; 0 stands for one that is not the system's, and
+// is printed so (`error 0`).
+#[derive(Clone, Copy, PartialEq, Eq)]
+pub struct Failure {
+    pub number: u32,
 }
 
 // The error of a call that a signal interrupts.
 pub const INTERRUPTED: u32 = 4;
 
+// How often in a row a call that signals interrupt is made: a program has to end (D24).
+const TRIES: u32 = 1000000;
+
 // The number of an error, as the system has it; none is below 0.
-pub fn error_number(error: i32) -> u32
+fn error_number(error: i32) -> u32
     ensures { result ≡ error_number error }
 {
-    if error > 0 { error as u32 } else { 0 }
+    u32::try_from(error).unwrap_or(0)
 }
 
 // The number of an error of reading or writing; 0 stands for one that is not the system's.
-pub fn number_of(error: &io::Error) -> u32
+fn number_of(error: &io::Error) -> u32
     ensures { result ≡ number_of error.now }
 {
-    match error.raw_os_error() {
-        Some(number) => error_number(number),
-        None => 0,
+    error.raw_os_error().map_or(0, error_number)
+}
+
+impl From<io::Error> for Failure {
+    ghost from_gives = { λ error failure. failure ≡ failure_of error };
+
+    fn from(error: io::Error) -> Failure {
+        Failure {
+            number: number_of(&error),
+        }
     }
 }
 
-// What came of a call that failed with this error.
-fn failed(number: u32) -> Moved
-    ensures { result ≡ failed_by number }
+// What came of a call that gave this answer: how many bytes it moved, or why it moved none; nothing where a signal came first, and
+// the call is to be made again.
+fn came(answer: io::Result<usize>) -> Option<Result<usize, Failure>>
+    ensures { result ≡ moved_by answer }
 {
-    if number == INTERRUPTED {
-        return Moved::Interrupted;
-    }
-    Moved::Failed(number)
-}
-
-// What came of a call that gave this answer: how many bytes it moved, or why it moved none.
-pub fn came(answer: io::Result<usize>) -> Moved
-    ensures { Came answer result }
-{
-    match answer {
-        Ok(0) => Moved::Nothing,
-        Ok(count) => Moved::Bytes(count),
-        Err(error) => failed(number_of(&error)),
+    match answer.map_err(Failure::from) {
+        Err(failure) if failure.number == INTERRUPTED => None,
+        settled => Some(settled),
     }
 }
 
-pub fn is_interrupted(moved: Moved) -> bool
-    ensures { result ≡ is_interrupted moved }
+// One read into the space, made again where a signal came first.
+pub fn read_once<R: Read>(input: &mut R, space: &mut [u8]) -> Result<usize, Failure>
+    ensures within { ReadsAtMost result space.new }
+    ensures bytes { ReadConsumes (R.remaining input.old) (R.remaining input.new) result space.new }
 {
-    match moved {
-        Moved::Interrupted => true,
-        Moved::Bytes(_) => false,
-        Moved::Nothing => false,
-        Moved::Failed(_) => false,
+    'tries: for _ in 0..TRIES {
+        if let Some(settled) = came(input.read(space)) {
+            return settled;
+        }
     }
+    Err(Failure {
+        number: INTERRUPTED,
+    })
 }
 
-// The end, once so many bytes were moved and the last call moved no more: only a call that moved nothing, and says so,
-// is no failure. One that moves bytes is never the last.
-pub fn end(count: usize, last: Moved) -> Ended
-    ensures { result ≡ ended_by count last }
+// One write, made again where a signal came first.
+// Not one function with the above: it would take the call as a closure, whose clauses could name neither what the reader has left nor
+// what the writer holds.
+pub fn write_once<W: Write>(to: &mut W, bytes: &[u8]) -> Result<usize, Failure>
+    ensures within { WritesAtMost result bytes.now }
+    ensures bytes { WriteAppends (W.contents to.old) (W.contents to.new) result bytes.now }
 {
-    match last {
-        Moved::Bytes(_) => Ended::After(count),
-        Moved::Nothing => Ended::After(count),
-        Moved::Interrupted => Ended::Failed(INTERRUPTED),
-        Moved::Failed(number) => Ended::Failed(number),
+    'tries: for _ in 0..TRIES {
+        if let Some(settled) = came(to.write(bytes)) {
+            return settled;
+        }
     }
+    Err(Failure {
+        number: INTERRUPTED,
+    })
 }

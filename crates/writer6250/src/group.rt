@@ -19,9 +19,7 @@ pub(crate) fn store(words: &mut [u16], group: Group)
         tracks: group.tracks,
         parity: group.parity ^ 255,
     };
-    let mut j = Code6250::NUMBERS;
-    while 0 < j {
-        j -= 1;
+    for j in (0..Code6250::NUMBERS).rev() {
         words[j] = word(recorded.value(j));
     }
 }

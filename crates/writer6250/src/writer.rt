@@ -10,7 +10,7 @@ ghost use Rattle.terms.specs.Reading.{bpi6250};
 ghost use Rattle.terms.specs.Terms.{Terms};
 
 use crate::group::store;
-use answer::{Reason, Written};
+use answer::{Reason, Refusal};
 use group6250::group::written;
 use rectangular::Code6250;
 
@@ -24,11 +24,7 @@ fn last_group(bytes: &[u8]) -> [u8; Code6250::BYTES]
     let mut last = [0u8; Code6250::BYTES];
     let left = bytes.len() % Code6250::BYTES;
     let start = bytes.len() - left;
-    let mut k = 0;
-    while k < left {
-        last[k] = bytes[start + k];
-        k += 1;
-    }
+    last[..left].copy_from_slice(&bytes[start..]);
     last[LAST] = (Code6250::MOST_PADDING - left) as u8;
     last
 }
@@ -40,31 +36,29 @@ fn write_groups(bytes: &[u8], words: &mut [u16])
     ensures { words.new ≡ groups_stored (length bytes.now / bytes_per_group) bytes.now words.old }
 {
     let full = bytes.len() / Code6250::BYTES;
-    let mut g = 0;
-    while g < full {
+    for g in 0..full {
         let from = g * Code6250::BYTES;
         let to = g * Code6250::NUMBERS;
         store(&mut words[to..], written(&bytes[from..]));
-        g += 1;
     }
 }
 
 // Writes a record: data as words, into the front of the output.
-pub fn write(bytes: &[u8], words: &mut [u16]) -> Written
+pub fn write(bytes: &[u8], words: &mut [u16]) -> Result<usize, Refusal>
     ensures answer { told_written result ≡ write_answer (length bytes.now) (length words.old) }
     ensures output { words.new ≡ output_after (told_written result) (written_record bytes.now) words.old }
     ensures terms { Terms (Call.write bpi6250 bytes.now) (told_written result) words.old words.new }
 {
     if bytes.len() > Code6250::MOST_DATA {
-        return Written::refused(Reason::Length);
+        return Err(Reason::Length.into());
     }
     let full = bytes.len() / Code6250::BYTES;
     if words.len() < (full + 1) * Code6250::NUMBERS {
-        return Written::refused(Reason::Space);
+        return Err(Reason::Space.into());
     }
     write_groups(bytes, words);
     let last = last_group(bytes);
     let to = full * Code6250::NUMBERS;
     write_groups(&last, &mut words[to..]);
-    Written::Delivered(full + 1)
+    Ok(full + 1)
 }

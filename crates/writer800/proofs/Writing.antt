@@ -1,6 +1,7 @@
 -- What a writer has stored, and what it answers.
 -- Assumes nothing.
 use mathlib.Core.Path.{◌≡◌, sym, ap, ap₂, ◌∙◌}
+use mathlib.Core.Logic.{◌⊎◌, inl, inr}
 use mathlib.Core.List.{List, [], ◌∷◌, ◌++◌, map}
 use Prim.Native.Nat.{ℕ, suc, ◌+◌, ◌<◌, ◌≤◌}
 use native.Mathlib.Omega.{arith}
@@ -24,13 +25,10 @@ use Rattle.record800.proofs.Recorded.{character_lt, length_record, longitudinal_
 -- ---- the answer
 
 module _ (size space : ℕ) where
-  pub empty_refused : size < least_data → write_answer size space ≡ refused_for Length 0
+  pub length_refused : (size < least_data) ⊎ (least_data ≤ size × most_data < size) → write_answer size space ≡ refused_for Length 0
   unfolding write_answer
-  empty_refused h = simp (lt-leb least_data size h)
-
-  pub long_refused : least_data ≤ size → most_data < size → write_answer size space ≡ refused_for Length 0
-  unfolding write_answer
-  long_refused some h = simp (le-leb least_data size some, lt-leb size most_data h)
+  length_refused (inl h) = simp (lt-leb least_data size h)
+  length_refused (inr h) = simp (le-leb least_data size h.0, lt-leb size most_data h.1)
 
   pub space_refused : least_data ≤ size → size ≤ most_data → space < size + checks → write_answer size space ≡ refused_for Space 0
   unfolding write_answer

@@ -1,10 +1,9 @@
-// The character of each byte, as a table. A call lends it to its loop, so that a character takes one look-up: a
-// constant array is made where it is named, which is once a record.
+// The character of a byte, by one look-up.
 ghost use Rattle.std.specs.Prelude.{◌≡◌};
-ghost use Rattle.indexed.specs.List.{tabulate};
 ghost use Rattle.record800.specs.Record.{character_of};
 
-const CHARACTERS: [u16; 256] = [
+// Each byte with its parity bit.
+static CHARACTERS: [u16; 256] = [
     256, 1, 2, 259, 4, 261, 262, 7, 8, 265, 266, 11, 268, 13, 14, 271, 16, 273, 274, 19, 276, 21,
     22, 279, 280, 25, 26, 283, 28, 285, 286, 31, 32, 289, 290, 35, 292, 37, 38, 295, 296, 41, 42,
     299, 44, 301, 302, 47, 304, 49, 50, 307, 52, 309, 310, 55, 56, 313, 314, 59, 316, 61, 62, 319,
@@ -20,9 +19,9 @@ const CHARACTERS: [u16; 256] = [
     494, 239, 496, 241, 242, 499, 244, 501, 502, 247, 248, 505, 506, 251, 508, 253, 254, 511,
 ];
 
-// Each byte with its parity bit.
-pub(crate) fn data_characters() -> [u16; 256]
-    ensures { result ≡ tabulate 256 character_of }
+// The byte with its parity bit.
+pub(crate) fn character_of(byte: u8) -> u16
+    ensures { result ≡ character_of byte }
 {
-    CHARACTERS
+    CHARACTERS[byte as usize]
 }

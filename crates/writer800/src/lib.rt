@@ -5,5 +5,4 @@
 mod character;
 mod writer;
 
-pub use answer::Written;
 pub use writer::write;

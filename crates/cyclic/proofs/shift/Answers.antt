@@ -9,12 +9,12 @@ use Rattle.register.proofs.Shift.{shift_low, shift_high}
 use Rattle.cyclic.specs.Constants.{feedback, times_x}
 use Rattle.cyclic.proofs.shift.Goals as goal
 
-pub returns-then-doubled-le-MOST_CHARACTER : goal.returns-then-doubled-le-MOST_CHARACTER
+pub returns-then-a-le-NO_CARRY : goal.returns-then-a-le-NO_CARRY
 unfolding times_x
-returns-then-doubled-le-MOST_CHARACTER c = omega (arith, shift_low 9 feedback c.args.a (omega arith))
+returns-then-a-le-NO_CARRY c = omega (arith, shift_low 9 feedback c.args.a (omega arith))
 
-pub returns-else-doubled-le-MOST_CHARACTER : goal.returns-else-doubled-le-MOST_CHARACTER
+pub returns-else-a-le-NO_CARRY : goal.returns-else-a-le-NO_CARRY
 unfolding times_x
-returns-else-doubled-le-MOST_CHARACTER c =
+returns-else-a-le-NO_CARRY c =
     let a = c.args.a in
     ap (λ (x : ℕ). x ⊕ 633) (mul_comm a 2) ∙ sym (shift_high 9 feedback a (omega arith) (omega arith) (omega arith))

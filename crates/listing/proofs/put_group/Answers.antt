@@ -1,22 +1,24 @@
--- `listing::put_group` meets its contract. The loop's invariant: the first j words are put.
+-- `listing::put_group` meets its contract: the line grows word by word.
 -- Assumes nothing.
-use mathlib.Core.Path.{◌≡◌}
+use mathlib.Core.Path.{◌≡◌, sym}
 use native.Mathlib.Omega.{arith}
+use lib.Seq.{length-take-le}
+use Rattle.page.proofs.Printed.{printed_both}
 use Rattle.rectangular.specs.Constants.{numbers_per_group}
-use Rattle.listing.proofs.Lines.{words_none, words_more, words_all}
+use Rattle.listing.proofs.Lines.{blocks_none, blocks_more, front_word}
 use Rattle.listing.proofs.put_group.Goals as goal
 
 pub loop-j-init : goal.loop-j-init
-loop-j-init c = let args = c.args in (omega arith, words_none args.words.now args.at _ _)
+loop-j-init c = blocks_none _ _
 
 pub loop-j-preserved : goal.loop-j-preserved
 loop-j-preserved c =
     let l = c.loop-j in
-    let args = c.args in (omega arith, words_more args.words.now args.at l.j l.invariant.1 c.put_word-end.ensures)
+    let word = front_word c.args.words.now 9 l.j (omega (arith, c.loop-j-test.true, length-take-le 9 c.args.words.now c.requires)) in
+    blocks_more l.j _ _ l.invariant (rw (sym word) c.put_word.ensures)
 
 pub returns : goal.returns
 returns c =
     let l = c.loop-j in
-    let args = c.args in
-    let all : l.j ≡ numbers_per_group = omega (arith, l.invariant.0) in
-    words_all args.words.now args.at l.j all l.invariant.1 c.put.ensures.text
+    let all : l.j ≡ numbers_per_group = omega (arith, c.loop-j-test.false, l.auto.j-end, length-take-le 9 c.args.words.now c.requires) in
+    printed_both _ _ _ (rw (sym all) l.invariant) c.put.ensures

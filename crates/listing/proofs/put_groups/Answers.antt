@@ -1,24 +1,15 @@
--- `listing::put_groups` meets its contract. The loop's invariant: the first g groups are put.
+-- `listing::put_groups` meets its contract: the text grows group by group.
 -- Assumes nothing.
-use Prim.Native.Nat.{ℕ}
-use mathlib.Core.Path.{◌≡◌, subst}
-use native.Mathlib.Omega.{arith}
-use Rattle.page.specs.Page.{Printed}
-use Rattle.listing.specs.Listing.{record_text}
-use Rattle.listing.proofs.Lines.{groups_none, groups_more}
+use mathlib.Core.Path.{sym}
+use Prim.Native.Nat.{◌*◌}
+use Rattle.rectangular.specs.Constants.{numbers_per_group}
+use Rattle.listing.proofs.Lines.{blocks_none, blocks_more, group_at}
 use Rattle.listing.proofs.put_groups.Goals as goal
 
 pub loop-g-init : goal.loop-g-init
-loop-g-init c = (omega arith, groups_none c.args.words.now _ _)
+loop-g-init c = blocks_none _ _
 
 pub loop-g-preserved : goal.loop-g-preserved
 loop-g-preserved c =
     let l = c.loop-g in
-    let words = c.args.words.now in (omega arith, groups_more words l.g l.invariant.1 c.put_group-end.ensures)
-
-pub returns : goal.returns
-returns c =
-    let l = c.loop-g in
-    let args = c.args in
-    let all : l.g ≡ args.groups = omega (arith, l.invariant.0) in
-    subst (λ (n : ℕ). Printed (record_text args.words.now n) args.page.now 0 l.page l.end) all l.invariant.1
+    blocks_more l.g _ _ l.invariant (rw (sym (group_at c.args.words.now (numbers_per_group * l.g))) c.put_group.ensures)

@@ -1,32 +1,23 @@
--- `slices::union` meets its contract. The loop's invariant: the first `k` values are gathered.
+-- `slices::union` meets its contract: each value adds its bits.
 -- Assumes nothing.
-use mathlib.Core.Path.{◌≡◌, refl, sym, ap, ◌∙◌}
-use Prim.Native.Nat.{ℕ, ◌-◌}
-use native.Mathlib.Omega.{arith}
-use native.Mathlib.Numerals.{add-one}
-use lib.ListN.{length, get_or}
-use lib.Bits.{bit_or}
+use Rattle.std.proofs.Common.{◌≡◌, refl, sym, ap, ◌∙◌, ℕ, arith, add-one, length, get_or, bit_or}
 use Rattle.slices.specs.Union.{union_to, union_of}
-use borrow.Author.Rules.{rules}
 use Rattle.slices.proofs.union.Goals as goal
 
-pub loop-k-init : goal.loop-k-init
+pub loop-value-init : goal.loop-value-init
 unfolding union_to
-loop-k-init c = (search rules, refl)
+loop-value-init c = refl
 
-pub loop-k-preserved : goal.loop-k-preserved
+pub loop-value-preserved : goal.loop-value-preserved
 unfolding union_to
-loop-k-preserved c =
-    let at = c.loop-k in
-    let values = c.args.values.now in (
-      search rules,
-      ap (λ (b : ℕ). bit_or b (get_or values at.k 0)) at.invariant.1 ∙ ap (λ (n : ℕ). union_to n values) (sym (add-one at.k)),
-    )
+loop-value-preserved c =
+    let k = c.loop-value.value-index in
+    let values = c.args.values.now in
+    ap (λ (b : ℕ). bit_or b (get_or values k 0)) c.loop-value.invariant ∙ ap (λ (n : ℕ). union_to n values) (sym (add-one k))
 
 pub returns : goal.returns
 unfolding union_of
 returns c =
-    let at = c.loop-k in
     let values = c.args.values.now in
-    let all : at.k ≡ length values = omega arith in
-    at.invariant.1 ∙ ap (λ (n : ℕ). union_to n values) all
+    let all : c.loop-value.value-index ≡ length values = omega arith in
+    c.loop-value.invariant ∙ ap (λ (n : ℕ). union_to n values) all

@@ -10,28 +10,20 @@ use Rattle.terms.proofs.Terms.{with_terms}
 use Rattle.terms.specs.Call.{copy, answer_to, result_of}
 use Rattle.copier800.proofs.copier.copy_record.Goals as goal
 
-pub returns-then-characters : goal.returns-then-characters
-unfolding answer_to result_of
-returns-then-characters c =
-    let args = c.args in
-    let made = with_terms _ _ _ (copy args.backward args.characters.now) c.copy_through.ensures.answer c.copy_through.ensures.output in record {
-      answer = made.0;
-      output = made.1.0;
-      terms = made.1.1;
-    }
-
-pub copy_through-requires-2 : goal.copy_through-requires-2
+pub copy_through-requires-else-data_length-le-SHORT-clause-enough : goal.copy_through-requires-else-data_length-le-SHORT-clause-enough
 unfolding length_suits
-copy_through-requires-2 c suits =
+copy_through-requires-else-data_length-le-SHORT-clause-enough c suits =
     let count = length c.args.characters.now in
     omega (arith, leb-true count 2050 (both_true (leb 3 count) (leb count 2050) suits).1)
 
-pub returns : goal.returns
+pub returns-then-data_length-le-SHORT-clause-terms : goal.returns-then-data_length-le-SHORT-clause-terms
 unfolding answer_to result_of
-returns c =
-    let args = c.args in
-    let made = with_terms _ _ _ (copy args.backward args.characters.now) c.copy_through-2.ensures.answer c.copy_through-2.ensures.output in record {
-      answer = made.0;
-      output = made.1.0;
-      terms = made.1.1;
-    }
+returns-then-data_length-le-SHORT-clause-terms c =
+    let copied = c.copy_through.ensures in
+    (with_terms _ _ _ (copy c.args.backward c.args.characters.now) copied.answer copied.output).1.1
+
+pub returns-else-data_length-le-SHORT-clause-terms : goal.returns-else-data_length-le-SHORT-clause-terms
+unfolding answer_to result_of
+returns-else-data_length-le-SHORT-clause-terms c =
+    let copied = c.copy_through-else-data_length-le-SHORT.ensures in
+    (with_terms _ _ _ (copy c.args.backward c.args.characters.now) copied.answer copied.output).1.1

@@ -1,9 +1,12 @@
--- `group_code::writing::word` meets its contract: the byte is flipped twice.
+-- `group_code::writing::word` meets its contract: every entry is computed.
 -- Assumes nothing.
-use mathlib.Core.Path.{◌∙◌}
-use Rattle.register.proofs.Flipped.{flipped_back}
+use mathlib.Core.Path.{refl}
+use borrow.Author.Rules.{rules}
+use Rattle.indexed.specs.List.{tabulate, tabulate_from}
+use Rattle.indexed.proofs.Tabulate.{ruled}
 use Rattle.group_code.specs.Code.{word_of}
 use Rattle.group_code.proofs.writing.word.Goals as goal
 
 pub returns : goal.returns
-returns c = c.flipped_word.ensures ∙ flipped_back word_of c.args.byte
+unfolding tabulate tabulate_from
+returns c = ruled _ 256 word_of refl c.args.byte 0 (search rules)

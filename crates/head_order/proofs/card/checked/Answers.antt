@@ -1,11 +1,19 @@
--- `head_order::card::checked` meets its contract, by the card's length and what `checked_numbers` ensures.
+-- `head_order::card::checked` meets its contract, by the card's length and then its numbers.
 -- Assumes nothing.
-use mathlib.Core.Path.{sym, ◌∙◌}
-use Rattle.track_order.proofs.Rows.{card_length, card_nine}
+use mathlib.Core.Path.{sym, ap, ◌∙◌}
+use Rattle.std.proofs.lemmas.Result.{err_from_is_err_and}
+use Rattle.answer.specs.Answer.{delivered, told, told_refusal}
+use Rattle.track_order.specs.Moved.{if_none_wrong}
+use Rattle.track_order.proofs.Moved.{numbers_refused}
+use Rattle.head_order.proofs.Told.{numbers_then}
 use Rattle.head_order.proofs.card.checked.Goals as goal
 
-pub returns-then-card-ne-TRACKS : goal.returns-then-card-ne-TRACKS
-returns-then-card-ne-TRACKS c figures = c.refused.ensures figures ∙ sym (card_length _ _ c.if-card-ne-TRACKS.true)
+pub returns-in_err-nine_numbers : goal.returns-in_err-nine_numbers
+returns-in_err-nine_numbers c =
+    let refusal = err_from_is_err_and _ c.from_residual.ensures.1 in
+    ap (told (λ good. good)) refusal.1 ∙ ap told_refusal refusal.2 ∙ sym (numbers_refused _ _ _ _ _ (sym c.in_err-nine_numbers.ensures))
 
 pub returns : goal.returns
-returns c figures = c.checked_numbers.ensures figures ∙ sym (card_nine _ _ c.if-card-ne-TRACKS.false)
+returns c =
+    c.none_wrong.ensures
+    ∙ numbers_then c.args.card.now _ (λ numbers. if_none_wrong numbers (delivered numbers)) c.in_ok-nine_numbers.ensures

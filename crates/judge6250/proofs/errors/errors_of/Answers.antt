@@ -43,34 +43,30 @@ module _ (m : ℕ) (small : m < 512) (some : m ≡ 0 → ⊥) (alone : bit_and m
 
 pub located_likely-requires : goal.located_likely-requires
 located_likely-requires c =
-    let start = c in
-    one-lt start.args.pointers start.requires c.if-pointers-eq0.false c.if-others-eq0.true
+    one-lt c.args.pointers c.requires c.if-pointers-eq0.false c.if-others-eq0.true
 
 pub returns-then-legal : goal.returns-then-legal
 unfolding errors_of
 returns-then-legal c =
-    let start = c in
-    let m = start.args.pointers in
-    let one = ap length (the_one m start.requires c.if-pointers-eq0.false c.if-others-eq0.true) in
+    let m = c.args.pointers in
+    let one = ap length (the_one m c.requires c.if-pointers-eq0.false c.if-others-eq0.true) in
     c.anywhere-then-legal.ensures
-    ∙ one_anywhere start.args.s1 start.args.s2 _ c.located_likely.ensures
-    ∙ sym (ap (errors_of 8 feedback exponent start.args.s1 start.args.s2)
+    ∙ one_anywhere c.args.s1 c.args.s2 _ c.located_likely.ensures
+    ∙ sym (ap (errors_of 8 feedback exponent c.args.s1 c.args.s2)
     (ap (pointed_tracks 9) (ap (λ (b : Bool). relied_on b m) c.if-legal.true ∙ relied_one true m (is_one m one)) ∙ none_pointed 9))
 
 pub pointed_once-requires : goal.pointed_once-requires
 pointed_once-requires c =
-    let start = c in
-    one-lt start.args.pointers start.requires c.if-pointers-eq0.false c.if-others-eq0.true
+    one-lt c.args.pointers c.requires c.if-pointers-eq0.false c.if-others-eq0.true
 
 pub returns-then-others-eq0 : goal.returns-then-others-eq0
 unfolding errors_of
 returns-then-others-eq0 c =
-    let start = c in
-    let m = start.args.pointers in
+    let m = c.args.pointers in
     c.pointed_once.ensures
-    ∙ sym (ap (errors_of 8 feedback exponent start.args.s1 start.args.s2)
+    ∙ sym (ap (errors_of 8 feedback exponent c.args.s1 c.args.s2)
     (ap (pointed_tracks 9) (ap (λ (b : Bool). relied_on b m) c.if-legal.false ∙ relied_others false m (illegal_not_one m))
-    ∙ the_one m start.requires c.if-pointers-eq0.false c.if-others-eq0.true))
+    ∙ the_one m c.requires c.if-pointers-eq0.false c.if-others-eq0.true))
 
 pub overflow_cast-second : goal.overflow_cast-second
 overflow_cast-second c =
@@ -79,27 +75,24 @@ overflow_cast-second c =
 
 pub pointed_twice-requires : goal.pointed_twice-requires
 pointed_twice-requires c =
-    let start = c in
-    let m = start.args.pointers in
+    let m = c.args.pointers in
     let both = count_trailing_zeros 16 m ∷ count_trailing_zeros 16 (bit_and m (m - 1)) ∷ [] in
-    let is : pointed_tracks 9 m ≡ both = two_pointed m start.requires (counts_two m start.requires c.if-pointers-eq0.false c.if-others-eq0.false c.if-others-eq0-2.true) in
+    let is : pointed_tracks 9 m ≡ both = two_pointed m c.requires (counts_two m c.requires c.if-pointers-eq0.false c.if-others-eq0.false c.if-others-eq0-2.true) in
     (pointed_ascends 9 m both is 0 1 (omega arith) (omega arith), pointed_lt 9 m both is 1 (omega arith))
 
 pub returns-then-others-eq0-2 : goal.returns-then-others-eq0-2
 unfolding errors_of
 returns-then-others-eq0-2 c =
-    let start = c in
-    let m = start.args.pointers in
-    let is = two_pointed m start.requires (counts_two m start.requires c.if-pointers-eq0.false c.if-others-eq0.false c.if-others-eq0-2.true) in
+    let m = c.args.pointers in
+    let is = two_pointed m c.requires (counts_two m c.requires c.if-pointers-eq0.false c.if-others-eq0.false c.if-others-eq0-2.true) in
     c.pointed_twice.ensures
-    ∙ sym (ap (errors_of 8 feedback exponent start.args.s1 start.args.s2)
-    (ap (pointed_tracks 9) (relied_others start.args.legal m (others_not_one m start.args.legal (λ e. omega (arith, e, ap length is)))) ∙ is))
+    ∙ sym (ap (errors_of 8 feedback exponent c.args.s1 c.args.s2)
+    (ap (pointed_tracks 9) (relied_others c.args.legal m (others_not_one m c.args.legal (λ e. omega (arith, e, ap length is)))) ∙ is))
 
 pub returns : goal.returns
 returns c =
-    let start = c in
-    let m = start.args.pointers in
-    let many = counts_many m start.requires c.if-pointers-eq0.false c.if-others-eq0.false c.if-others-eq0-2.false in
-    many_pointed_lem start.args.s1 start.args.s2 m start.requires c.if-pointers-eq0.false (many 1 (omega arith)) (many 2 (omega arith))
-    ∙ sym (ap (λ (p : ℕ). errors_of 8 feedback exponent start.args.s1 start.args.s2 (pointed_tracks 9 p))
-    (relied_others start.args.legal m (others_not_one m start.args.legal (λ e. many 1 (omega arith) (sym (pointed_count m start.requires) ∙ e)))))
+    let m = c.args.pointers in
+    let many = counts_many m c.requires c.if-pointers-eq0.false c.if-others-eq0.false c.if-others-eq0-2.false in
+    many_pointed_lem c.args.s1 c.args.s2 m c.requires c.if-pointers-eq0.false (many 1 (omega arith)) (many 2 (omega arith))
+    ∙ sym (ap (λ (p : ℕ). errors_of 8 feedback exponent c.args.s1 c.args.s2 (pointed_tracks 9 p))
+    (relied_others c.args.legal m (others_not_one m c.args.legal (λ e. many 1 (omega arith) (sym (pointed_count m c.requires) ∙ e)))))

@@ -3,7 +3,7 @@
 -- Assumes nothing.
 use mathlib.Core.Path.{◌≡◌}
 use mathlib.Core.Bool.{false}
-use Prim.Native.Nat.{ℕ, ◌-◌, ◌<◌, ◌≤◌}
+use Prim.Native.Nat.{ℕ, ◌<◌}
 use lib.Dec.{eqb}
 use Rattle.register.specs.Shift.{shifts}
 use Rattle.rectangular.specs.Constants.{feedback}
@@ -16,7 +16,4 @@ Fails s1 s2 k = eqb (weighed 8 feedback k s1) s2 ≡ false
 
 abbrev pub invariant-loop-track : goal.invariant-loop-track
 invariant-loop-track l =
-    (l.track ≤ 8) × (l.code.register ≡ shifts 8 feedback l.track l.s1) × ((k : ℕ) → k < l.track → Fails l.s1 l.s2 k)
-
-abbrev pub decreases-loop-track : goal.decreases-loop-track
-decreases-loop-track l = 8 - l.track
+    (l.code.register ≡ shifts 8 feedback l.track l.s1) × ((k : ℕ) → k < l.track → Fails l.s1 l.s2 k)

@@ -6,13 +6,13 @@ use borrow.Author.Rules.{rules}
 use Rattle.rectangular.specs.Constants.{feedback}
 use Rattle.rectangular.proofs.Errors.{first_accounting_lem}
 use Rattle.rectangular.proofs.Suits.{nine_tracks}
+use Rattle.indexed.proofs.Found.{index_found}
 use Rattle.judge6250.proofs.errors.located_likely.Goals as goal
 
-pub returns-then-leaves-s2 : goal.returns-then-leaves-s2
-returns-then-leaves-s2 c =
-    let start = c in
-    sym (first_accounting_lem 8 feedback start.args.s1 start.args.s2 nine_tracks (search rules) c.if-s1-ne0.true start.args.likely
-    (omega (arith, start.requires)) (sym c.weight-leaves.ensures ∙ c.if-leaves-s2.true))
-
-pub returns : goal.returns
-returns c = c.located.ensures
+pub returns-then-weight-s2 : goal.returns-then-weight-s2
+returns-then-weight-s2 c =
+    let args = c.args in
+    index_found 9 _ args.likely
+    (first_accounting_lem 8 feedback args.s1 args.s2 nine_tracks (search rules) c.if-s1-ne0.true args.likely
+    (omega (arith, c.requires)) (sym c.weight.ensures ∙ c.if-weight-s2.true))
+    c.requires

@@ -21,30 +21,28 @@ overflow_add-result c =
 
 pub returns : goal.returns
 returns c =
-    let joined = c in
-    let start = joined in
-    let args = start.args in
+    let args = c.args in
     let g = args.group in
-    let parity1 : joined.if-pair-eq-PARITY_TRACK.parity ≡ g.parity ⊕ error_at args.pair.first args.pair.error 8 =
-    elim joined.if-pair-eq-PARITY_TRACK.branch [
-      | then-pair-eq-PARITY_TRACK w ↦ parity_here g.parity joined.if-pair-eq-PARITY_TRACK.parity args.pair.first args.pair.error w.if-pair-eq-PARITY_TRACK.true w.parity-is
-      | else-pair-eq-PARITY_TRACK w ↦ parity_elsewhere g.parity joined.if-pair-eq-PARITY_TRACK.parity args.pair.first args.pair.error w.if-pair-eq-PARITY_TRACK.false w.parity-is
+    let parity1 : c.if-pair-eq-PARITY_TRACK.parity ≡ g.parity ⊕ error_at args.pair.first args.pair.error 8 =
+    elim c.if-pair-eq-PARITY_TRACK.branch [
+      | then-pair-eq-PARITY_TRACK w ↦ parity_here g.parity c.if-pair-eq-PARITY_TRACK.parity args.pair.first args.pair.error w.if-pair-eq-PARITY_TRACK.true w.parity-is
+      | else-pair-eq-PARITY_TRACK w ↦ parity_elsewhere g.parity c.if-pair-eq-PARITY_TRACK.parity args.pair.first args.pair.error w.if-pair-eq-PARITY_TRACK.false w.parity-is
     ] in
-    let parity2 : joined.if-pair-eq-PARITY_TRACK-2.parity ≡ joined.if-pair-eq-PARITY_TRACK.parity ⊕ error_at args.pair.second args.pair.other 8 =
-    elim joined.if-pair-eq-PARITY_TRACK-2.branch [
-      | then-pair-eq-PARITY_TRACK-2 w ↦ parity_here joined.if-pair-eq-PARITY_TRACK.parity joined.if-pair-eq-PARITY_TRACK-2.parity args.pair.second args.pair.other w.if-pair-eq-PARITY_TRACK-2.true w.parity-is
-      | else-pair-eq-PARITY_TRACK-2 w ↦ parity_elsewhere joined.if-pair-eq-PARITY_TRACK.parity joined.if-pair-eq-PARITY_TRACK-2.parity args.pair.second args.pair.other w.if-pair-eq-PARITY_TRACK-2.false w.parity-is
+    let parity2 : c.if-pair-eq-PARITY_TRACK-2.parity ≡ c.if-pair-eq-PARITY_TRACK.parity ⊕ error_at args.pair.second args.pair.other 8 =
+    elim c.if-pair-eq-PARITY_TRACK-2.branch [
+      | then-pair-eq-PARITY_TRACK-2 w ↦ parity_here c.if-pair-eq-PARITY_TRACK.parity c.if-pair-eq-PARITY_TRACK-2.parity args.pair.second args.pair.other w.if-pair-eq-PARITY_TRACK-2.true w.parity-is
+      | else-pair-eq-PARITY_TRACK-2 w ↦ parity_elsewhere c.if-pair-eq-PARITY_TRACK.parity c.if-pair-eq-PARITY_TRACK-2.parity args.pair.second args.pair.other w.if-pair-eq-PARITY_TRACK-2.false w.parity-is
     ] in
     let values : values_of (record {
       tracks = g.tracks ⊕ c.placed.result ⊕ c.placed-2.result;
-      parity = joined.if-pair-eq-PARITY_TRACK-2.parity;
+      parity = c.if-pair-eq-PARITY_TRACK-2.parity;
     }) ≡ tabulate 9 (λ k. get_or (values_of g) k 0 ⊕ error_at args.pair.first args.pair.error k ⊕ error_at args.pair.second args.pair.other k) =
-    ap₂ (λ (x y : ℕ). values_of (record { tracks = g.tracks ⊕ x ⊕ y; parity = joined.if-pair-eq-PARITY_TRACK-2.parity }))
+    ap₂ (λ (x y : ℕ). values_of (record { tracks = g.tracks ⊕ x ⊕ y; parity = c.if-pair-eq-PARITY_TRACK-2.parity }))
     c.placed.ensures c.placed-2.ensures
     ∙ corrected_values g args.pair.first args.pair.error args.pair.second args.pair.other (search rules) (search rules) (search rules) (search rules)
-    joined.if-pair-eq-PARITY_TRACK-2.parity (parity2 ∙ ap (λ (x : ℕ). x ⊕ error_at args.pair.second args.pair.other 8) parity1) in record {
+    c.if-pair-eq-PARITY_TRACK-2.parity (parity2 ∙ ap (λ (x : ℕ). x ⊕ error_at args.pair.second args.pair.other 8) parity1) in record {
       values = values;
       changed = ap₂ ◌+◌ c.mark.ensures c.mark-2.ensures
           ∙ changed_marks (λ k. get_or (values_of g) k 0) args.pair.first args.pair.error args.pair.second args.pair.other (search rules) (search rules)
-          start.requires.2 _ values (values_of g) (λ k. refl);
+          c.requires.2 _ values (values_of g) (λ k. refl);
     }

@@ -1,15 +1,15 @@
 -- `judge800::track::located` meets its contract. The loop's invariant: the pattern is shifted `j` times, and the first `j` tracks
--- are counted.
+-- are tried.
 -- Assumes nothing.
 use mathlib.Core.Path.{◌≡◌}
 use mathlib.Core.Bool.{Bool, ◌&&◌}
-use Prim.Native.Nat.{ℕ, ◌-◌, ◌*◌, ◌^◌, ◌≤◌}
+use Prim.Native.Nat.{ℕ, ◌*◌, ◌^◌}
 use lib.Dec.{eqb}
 use Rattle.indexed.specs.List.{below, keep}
 use Rattle.register.specs.Shift.{shifts}
 use Rattle.register.specs.Xor.{◌⊕◌}
 use Rattle.cyclic.specs.Constants.{feedback, offset}
-use Rattle.judge800.specs.Told.{FoundIs}
+use Rattle.judge800.specs.Told.{one_found}
 use Rattle.judge800.proofs.track.located.Given as goal
 
 -- whether track j accounts for the sums
@@ -19,7 +19,4 @@ holdsAt check pattern longitudinal odd j =
 
 abbrev pub invariant-loop-j : goal.invariant-loop-j
 invariant-loop-j l =
-    FoundIs l.found (keep (holdsAt l.check l.pattern l.longitudinal l.odd) (below l.j)) × (l.j ≤ 9) × (l.shifted ≡ shifts 9 feedback l.j l.pattern)
-
-abbrev pub decreases-loop-j : goal.decreases-loop-j
-decreases-loop-j l = 9 - l.j
+    (l.found ≡ one_found (keep (holdsAt l.check l.pattern l.longitudinal l.odd) (below l.j))) × (l.shifted ≡ shifts 9 feedback l.j l.pattern)

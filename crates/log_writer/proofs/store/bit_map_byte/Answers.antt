@@ -3,7 +3,6 @@
 use mathlib.Core.Path.{◌≡◌, refl, ap, ap₂, ◌∙◌}
 use Prim.Native.Nat.{ℕ, ◌+◌, ◌-◌, ◌*◌}
 use native.Mathlib.Omega.{arith}
-use borrow.Author.Rules.{rules}
 use Rattle.indexed.specs.List.{tabulate, tabulate_from}
 use Rattle.register.specs.Bit.{of_bits}
 use Rattle.log_writer.proofs.Stored.{entered, entered_next, entered_lt, entered_all}
@@ -11,40 +10,32 @@ use Rattle.log_writer.proofs.store.bit_map_byte.Goals as goal
 
 pub loop-i-init : goal.loop-i-init
 unfolding of_bits tabulate tabulate_from
-loop-i-init c = (search rules, refl)
+loop-i-init c = refl
 
 pub overflow_mul-byte : goal.overflow_mul-byte
 overflow_mul-byte c =
-    let at = c.loop-i in
-    let args = c.args in
-    let changed = args.changed.now in
-    omega (arith, at.invariant.1, c.loop-i-test.true, entered_next changed args.b at.i c.loop-i-test.true at.invariant.0, entered_lt changed args.b (at.i - 1))
+    let i = c.loop-i.i in
+    let changed = c.args.changed.now in
+    omega (arith, c.loop-i.invariant, entered_next changed c.args.b i c.loop-i-test.true c.loop-i.auto.i, entered_lt changed c.args.b (i - 1))
 
 pub overflow_add-byte : goal.overflow_add-byte
 overflow_add-byte c =
-    let at = c.loop-i in
-    let args = c.args in
-    let changed = args.changed.now in
+    let i = c.loop-i.i in
+    let changed = c.args.changed.now in
     omega (
       arith,
-      at.invariant.1,
+      c.loop-i.invariant,
       c.standing_at.ensures,
-      entered_next changed args.b at.i c.loop-i-test.true at.invariant.0,
-      entered_lt changed args.b (at.i - 1),
+      entered_next changed c.args.b i c.loop-i-test.true c.loop-i.auto.i,
+      entered_lt changed c.args.b (i - 1),
     )
 
 pub loop-i-preserved : goal.loop-i-preserved
 loop-i-preserved c =
-    let at = c.loop-i in
-    let args = c.args in (
-      search rules,
-      ap₂ (λ (x y : ℕ). 2 * x + y) at.invariant.1 c.standing_at.ensures
-          ∙ entered_next args.changed.now args.b at.i c.loop-i-test.true at.invariant.0,
-    )
+    ap₂ (λ (x y : ℕ). 2 * x + y) c.loop-i.invariant c.standing_at.ensures
+    ∙ entered_next c.args.changed.now c.args.b c.loop-i.i c.loop-i-test.true c.loop-i.auto.i
 
 pub returns : goal.returns
 returns c =
-    let at = c.loop-i in
-    let args = c.args in
-    let all : at.i ≡ 0 = omega (arith, c.loop-i-test.false) in
-    at.invariant.1 ∙ ap (entered args.changed.now args.b) all ∙ entered_all args.changed.now args.b
+    let all : c.loop-i.i ≡ 0 = omega (arith, c.loop-i-test.false) in
+    c.loop-i.invariant ∙ ap (entered c.args.changed.now c.args.b) all ∙ entered_all c.args.changed.now c.args.b

@@ -1,65 +1,65 @@
--- `log_writer::store::store_log` meets its contract. The loop's invariant: the maps of the first `g` groups are stored behind the bit map.
+-- `log_writer::store::store_log` meets its contract. The loop's invariant: the maps of the groups so far are stored behind the bit map.
 -- Assumes nothing.
 use mathlib.Core.Path.{◌≡◌, refl, sym, ap, ap₂, ◌∙◌}
-use Prim.Native.Nat.{ℕ, ◌+◌, ◌-◌}
+use Prim.Native.Nat.{ℕ, ◌+◌}
 use native.Mathlib.Nat.{add-zero}
 use native.Mathlib.Omega.{arith}
-use borrow.Author.Rules.{rules}
-use lib.ListN.{length}
+use lib.ListN.{length, drop, length-append, length-drop, length-take}
 use Rattle.indexed.specs.List.{blocks}
 use Rattle.sense_log.specs.Log.{bit_map_length}
 use Rattle.sense_log.proofs.Bits.{stored, length_stored, bits_below, length_log}
-use Rattle.log_writer.proofs.Stored.{maps_more, length_more, log_stored}
+use Rattle.log_writer.proofs.Stored.{bit_map_stored, maps_more, length_more, log_stored}
 use Rattle.log_writer.proofs.store.store_log.Goals as goal
 
-pub store_bit_map-end-requires : goal.store_bit_map-end-requires
-store_bit_map-end-requires c = let pre = c.requires in (pre.0, omega (arith, pre.1))
-
-pub loop-g-init : goal.loop-g-init
+pub loop-map-init : goal.loop-map-init
 unfolding blocks
-loop-g-init c = (search rules, refl, sym (add-zero _), refl)
+loop-map-init c = record {
+  behind = sym (add-zero _);
+  kept = refl;
+}
 
 pub store_map-end-requires : goal.store_map-end-requires
 store_map-end-requires c =
-    let at = c.loop-g in
-    let made = c in
-    let start = made in
-    let changed = start.args.changed.now in
+    let changed = c.args.changed.now in
+    let log = c.args.log.now in
+    let front = c.bit_map_length-front.result in
+    let g = c.loop-map.map-index in
     omega (
       arith,
-      at.invariant.1,
-      at.invariant.2,
-      made.store_bit_map-end.auto.log,
-      made.store_bit_map-end.ensures.length,
-      length_stored changed at.g,
-      bits_below changed at.g,
-      c.loop-g-test.true,
-      start.requires.1,
+      c.loop-map.auto.log,
+      c.loop-map.invariant.behind,
+      c.bit_map_length-front.ensures,
+      c.store_bit_map.auto.bytes,
+      length-append c.store_bit_map.new.bytes (drop front log),
+      length-drop front log,
+      length-take front log,
+      length_stored changed g,
+      bits_below changed g,
+      c.loop-map-test.true,
+      c.requires.1,
     )
 
-pub loop-g-preserved : goal.loop-g-preserved
-loop-g-preserved c =
-    let done = c.store_map-end in
-    let at = c.loop-g in
-    let made = c in
-    let changed = made.args.changed.now in (
-      search rules,
-      done.auto.log ∙ at.invariant.1,
-      omega (arith, done.ensures.end, at.invariant.2, length_more changed at.g),
-      done.ensures.log ∙ maps_more changed _ _ at.log at.end at.g at.invariant.2 at.invariant.3,
-    )
+pub loop-map-preserved : goal.loop-map-preserved
+loop-map-preserved c =
+    let changed = c.args.changed.now in
+    let g = c.loop-map.map-index in
+    let was = c.loop-map.invariant in
+    let done = c.store_map-end.ensures in record {
+      behind = omega (arith, done.end, was.behind, length_more changed g);
+      kept = done.log ∙ maps_more changed _ _ c.loop-map.log c.loop-map.end g was.behind was.kept;
+    }
 
 pub returns : goal.returns
 returns c =
-    let at = c.loop-g in
-    let made = c in
-    let args = made.args in
-    let changed = args.changed.now in
-    let all : at.g ≡ length changed = omega (arith, at.invariant.0, c.loop-g-test.false) in
-    let size = made.store_bit_map-end.ensures.length in record {
-      length = at.invariant.2
+    let changed = c.args.changed.now in
+    let log = c.args.log.now in
+    let g = c.loop-map.map-index in
+    let was = c.loop-map.invariant in
+    let size = c.bit_map_length-front.ensures in
+    let all : g ≡ length changed = omega (arith, c.loop-map-test.false, c.loop-map.auto.map-index-end) in record {
+      length = was.behind
           ∙ ap₂ (λ (k n : ℕ). k + length (stored changed n)) size all
           ∙ ap (λ (n : ℕ). bit_map_length (length changed) + n) (length_stored changed (length changed))
           ∙ sym (length_log changed);
-      log = log_stored changed _ _ at.log at.g args.log.now all size made.store_bit_map-end.ensures.log at.invariant.3;
+      log = log_stored changed _ _ c.loop-map.log g log all size (bit_map_stored changed log _ _ size c.store_bit_map.ensures (omega (arith, c.requires.1))) was.kept;
     }

@@ -1,15 +1,14 @@
 -- `log_writer::store::store_map` meets its contract.
 -- Assumes nothing.
-use mathlib.Core.Path.{sym, ap, ◌∙◌}
+use mathlib.Core.Path.{◌≡◌, sym, ap, ◌∙◌}
 use mathlib.Core.List.{List}
-use Prim.Native.Nat.{ℕ, ◌+◌, ◌/◌, ◌%◌}
+use Prim.Native.Nat.{ℕ, ◌+◌}
 use native.Mathlib.Nat.{add-zero}
-use native.Mathlib.Numerals.{add-one}
 use native.Mathlib.Omega.{arith}
-use borrow.Author.Rules.{rules}
-use lib.ListN.{length, set, length-set}
+use lib.ListN.{length}
 use lib.Seq.{sets}
 use Rattle.sense_log.proofs.Standing.{no_bytes, two_bytes}
+use Rattle.log_writer.proofs.Stored.{part_stored, bytes_of_map}
 use Rattle.log_writer.proofs.store.store_map.Goals as goal
 
 pub returns-then-map-eq0 : goal.returns-then-map-eq0
@@ -21,14 +20,12 @@ returns-then-map-eq0 c =
       log = sym (ap (sets args.log.now args.at) none);
     }
 
-pub bounds-log-at-2 : goal.bounds-log-at-2
-bounds-log-at-2 c = rw length-set (search rules)
-
 pub returns : goal.returns
 returns c =
     let args = c.args in
-    let two = two_bytes args.map (omega (arith, c.if-map-eq0.false)) in record {
+    let two = two_bytes args.map (omega (arith, c.if-map-eq0.false)) in
+    let made = c.copy_from_slice.ensures.after ∙ c.to_le_bytes.ensures ∙ bytes_of_map args.map c.ranges.map.fits in
+    let long : length c.copy_from_slice.new.self ≡ 2 = ap length made in record {
       end = sym (ap (λ (l : List ℕ). args.at + length l) two);
-      log = ap (λ (k : ℕ). set (set args.log.now args.at (args.map % 256)) k (args.map / 256)) (add-one args.at)
-          ∙ sym (ap (sets args.log.now args.at) two);
+      log = part_stored args.at _ args.log.now _ (omega (arith, long)) (omega (arith, long, c.requires)) ∙ ap (sets args.log.now args.at) (made ∙ sym two);
     }

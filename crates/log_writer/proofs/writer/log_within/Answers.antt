@@ -1,77 +1,26 @@
 -- `log_writer::writer::log_within` meets its contract: what is stored is the log of the maps in front of those gathered.
 -- Assumes nothing.
-use mathlib.Core.Path.{◌≡◌, sym, ap, ap₂, ◌∙◌}
-use mathlib.Core.List.{List}
-use Prim.Native.Nat.{ℕ}
+use mathlib.Core.Path.{refl}
 use native.Mathlib.Omega.{arith}
-use lib.ListN.{length, take}
-use lib.Seq.{sets, length-take-le}
-use Rattle.answer.specs.Answer.{Answer, output_after}
-use Rattle.record6250.proofs.Reading.{lengths_told}
-use Rattle.scan6250.specs.Told.{told_read, reached, maps_gathered}
-use Rattle.sense_log.specs.Log.{log_of}
-use Rattle.sense_log.specs.Written.{logged, reading_log}
-use Rattle.log_writer.specs.Stored.{groups_logged}
-use Rattle.log_writer.proofs.Logged.{space_held, groups_within, groups_most, length_told_lem, log_in_front}
+use Rattle.std.proofs.lemmas.Result.{err_from_is_err_and}
+use Rattle.log_writer.proofs.Logged.{space_held, length_logged, log_in_front}
+use Rattle.answer.specs.Answer.{output_after}
 use Rattle.log_writer.proofs.writer.log_within.Goals as goal
 
-pub slice_bounds-store_log-end : goal.slice_bounds-store_log-end
-slice_bounds-store_log-end c =
-    let at = c in
-    let start = at in
-    let words = start.args.words.now in
-    let maps = start.args.maps.now in
-    let b = start.args.backward in
-    let changed = start.args.changed.now in
-    let told = told_read at.judge_record-read.result in
-    let is = at.judge_record-read.ensures.answer in
-    rw (c.groups_logged-stored.ensures, at.judge_record-read.ensures.maps) (groups_within b words maps changed told is)
+pub returns-in_err-judge_record-clause-log : goal.returns-in_err-judge_record-clause-log
+unfolding output_after
+returns-in_err-judge_record-clause-log g c =
+    let p = err_from_is_err_and c.from_residual.result c.from_residual.ensures.1 in rw p.1 refl
 
-pub slice_bounds-store_log-end-2 : goal.slice_bounds-store_log-end-2
-slice_bounds-store_log-end-2 c =
-    let at = c in
-    let start = at in
-    let words = start.args.words.now in
-    let maps = start.args.maps.now in
-    let b = start.args.backward in
-    let changed = start.args.changed.now in
-    let told = told_read at.judge_record-read.result in
-    let is = at.judge_record-read.ensures.answer in
-    sym (length-take-le c.groups_logged-stored.result _
-    (rw (c.groups_logged-stored.ensures, at.judge_record-read.ensures.maps) (groups_within b words maps changed told is)))
-
-pub store_log-length-requires : goal.store_log-length-requires
-store_log-length-requires c =
-    let at = c in
-    let start = at in
-    let words = start.args.words.now in
-    let maps = start.args.maps.now in
-    let b = start.args.backward in
-    let changed = start.args.changed.now in
-    let told = told_read at.judge_record-read.result in
-    let is = at.judge_record-read.ensures.answer in
-    let most = (lengths_told _ _ start.requires.0).1 in
-    let count = c.groups_logged-stored in
-    space_held count.result _ start.args.log.now (length maps) (omega (arith, count.ensures, groups_most b words maps changed told)) most start.requires.3
+pub store_log-requires : goal.store_log-requires
+store_log-requires g c =
+    space_held c.judge_record.new.changed c.args.log.now _ (omega (arith, c.requires.groups, c.requires.sizes)) c.requires.space
 
 pub returns : goal.returns
-returns c =
-    let at = c in
-    let start = at in
-    let words = start.args.words.now in
-    let maps = start.args.maps.now in
-    let b = start.args.backward in
-    let changed = start.args.changed.now in
-    let told = told_read at.judge_record-read.result in
-    let is = at.judge_record-read.ensures.answer in
-    let count = c.groups_logged-stored.ensures in
-    let kept = at.judge_record-read.ensures.maps in
-    let stored = c.store_log-length.ensures in
-    let size : c.store_log-length.result ≡ length (log_of (take (groups_logged told (length maps)) (maps_gathered b words maps (reached b words maps) changed))) =
-    stored.length ∙ ap₂ (λ (n : ℕ) (l : List ℕ). length (log_of (take n l))) count kept in record {
-      answer = c.answered.ensures ∙ ap (λ (n : ℕ). logged n told) size ∙ length_told_lem b words maps changed told is;
-      log = stored.log
-          ∙ ap₂ (λ (n : ℕ) (l : List ℕ). sets start.args.log.now 0 (log_of (take n l))) count kept
-          ∙ log_in_front b words maps changed told _ start.args.log.now is start.requires.3
-          ∙ ap (λ (a : Answer). output_after a (reading_log b words maps) start.args.log.now) (sym c.answered.ensures);
+returns g c =
+    let r = c.args.reading.now in
+    let read = c.in_ok-judge_record.ensures in record {
+      answer = length_logged r.backward r.words.now r.maps.now _ c.judge_record.new.changed _ read.answer read.maps c.store_log.result c.store_log.ensures.length;
+      log = log_in_front r.backward r.words.now r.maps.now _ c.judge_record.new.changed _ read.answer read.maps c.store_log.result c.args.log.now c.store_log.new.log
+          c.requires.space c.store_log.ensures.log;
     }

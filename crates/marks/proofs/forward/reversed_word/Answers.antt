@@ -4,7 +4,6 @@ use Prim.Native.Nat.{ℕ}
 use mathlib.Core.Path.{◌≡◌, refl, ap, ◌∙◌}
 use native.Mathlib.Numerals.{add-one}
 use native.Mathlib.Omega.{arith}
-use borrow.Author.Rules.{rules}
 use borrow.Author.Tests.{lt-ltb, le-ltb}
 use Rattle.indexed.specs.List.{tabulate, tabulate_from}
 use Rattle.register.specs.Bit.{of_bits}
@@ -19,7 +18,7 @@ returns-then-word-gt-MOST_WORD c = simp (lt-ltb _ _ c.if-word-gt-MOST_WORD.true)
 
 pub loop-k-init : goal.loop-k-init
 unfolding mirrored tabulate tabulate_from of_bits
-loop-k-init c = (search rules, refl)
+loop-k-init c = refl
 
 pub overflow_mul-reversed : goal.overflow_mul-reversed
 overflow_mul-reversed c = let l = c.loop-k in omega (arith, mirrored_small l.k c.args.word c.loop-k-test.true)
@@ -34,7 +33,7 @@ pub loop-k-preserved : goal.loop-k-preserved
 loop-k-preserved c =
     let l = c.loop-k in
     let word = c.args.word in
-    (search rules, omega (arith, mirrored_more l.k word, ap (λ (j : ℕ). mirrored j word) (add-one l.k)))
+    omega (arith, mirrored_more l.k word, ap (λ (j : ℕ). mirrored j word) (add-one l.k))
 
 pub returns : goal.returns
 unfolding reversed_word
@@ -42,4 +41,4 @@ returns c =
     let l = c.loop-k in
     let word = c.args.word in
     let all : l.k ≡ 10 = omega arith in
-    simp (le-ltb _ _ c.if-word-gt-MOST_WORD.false) (l.invariant.1 ∙ ap (λ (j : ℕ). mirrored j word) all)
+    simp (le-ltb _ _ c.if-word-gt-MOST_WORD.false) (l.invariant ∙ ap (λ (j : ℕ). mirrored j word) all)

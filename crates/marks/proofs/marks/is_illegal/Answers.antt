@@ -19,4 +19,4 @@ unfolding read_of
 returns c =
     let word = c.args.word in
     read_illegal word _
-    (ap (λ (l : List ℕ). get_or l word 0) c.forward_readings-readings.ensures ∙ get_or_readings false word (search rules))
+    (ap (λ (l : List ℕ). get_or l word 0) c.readings.ensures ∙ get_or_readings false word (search rules))

@@ -3,7 +3,6 @@
 use mathlib.Core.Path.{◌≡◌, ap, ◌∙◌}
 use Prim.Native.Nat.{ℕ, ◌-◌, ◌*◌, ◌/◌, ◌%◌, ◌^◌, ◌<◌}
 use borrow.Author.Rules.{rules}
-use Rattle.indexed.specs.Rule.{value_at}
 use Rattle.indexed.proofs.Test.{equal₂}
 use Rattle.register.specs.Matrix.{product}
 use Rattle.register.specs.Shift.{shift, shifts}
@@ -16,10 +15,10 @@ use Rattle.products.proofs.product.backward_power.Goals as goal
 abbrev low : ℕ → ℕ → ℕ
 low i x = x * 2 ^ (7 - i) % 2 ^ 64 % 128
 
-power : (i x : ℕ) → i < 8 → x < 256 → (x / 2 ^ i ⊕ value_at (product seventh_inverse) (low i x)) % 256 ≡ shifts 8 feedback (exponent - i) x
+power : (i x : ℕ) → i < 8 → x < 256 → (x / 2 ^ i ⊕ product seventh_inverse (low i x)) % 256 ≡ shifts 8 feedback (exponent - i) x
 unfolding shift shifts
 power =
-    equal₂ 8 256 (λ i x. (x / 2 ^ i ⊕ value_at (product seventh_inverse) (low i x)) % 256) (λ i x. shifts 8 feedback (exponent - i) x) tt
+    equal₂ 8 256 (λ i x. (x / 2 ^ i ⊕ product seventh_inverse (low i x)) % 256) (λ i x. shifts 8 feedback (exponent - i) x) tt
 
 pub returns : goal.returns
 returns c =

@@ -2,7 +2,7 @@
 -- illegal if their readings together are below 256.
 -- Assumes nothing.
 use mathlib.Core.Path.{◌≡◌}
-use Prim.Native.Nat.{ℕ, ◌+◌, ◌-◌, ◌<◌, ◌≤◌}
+use Prim.Native.Nat.{ℕ, ◌+◌, ◌<◌}
 use Rattle.indexed.specs.List.{tabulate}
 use Rattle.register.specs.Bit.{of_bits}
 use Rattle.group_code.specs.Word.{value_of}
@@ -12,8 +12,5 @@ use Rattle.reading6250.proofs.received.receive.Given as goal
 
 abbrev pub invariant-loop-k : goal.invariant-loop-k
 invariant-loop-k l =
-    (l.k ≤ 9) × (l.tracks ≡ packed 8 l.k (low (word_at l.backward l.words l.at))) × ((j : ℕ) → j + 1 ≡ l.k → l.parity ≡ value_of (word_at l.backward l.words l.at j))
+    (l.tracks ≡ packed 8 l.k (low (word_at l.backward l.words l.at))) × ((j : ℕ) → j + 1 ≡ l.k → l.parity ≡ value_of (word_at l.backward l.words l.at j))
     × (l.seen < 256 → of_bits (tabulate l.k (mark (word_at l.backward l.words l.at))) ≡ 0)
-
-abbrev pub decreases-loop-k : goal.decreases-loop-k
-decreases-loop-k l = 9 - l.k

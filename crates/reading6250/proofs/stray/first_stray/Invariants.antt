@@ -2,13 +2,9 @@
 -- Assumes nothing.
 use mathlib.Core.Path.{◌≡◌}
 use mathlib.Core.Bool.{false}
-use Prim.Native.Nat.{ℕ, ◌-◌, ◌<◌, ◌≤◌}
-use lib.ListN.{length}
+use Prim.Native.Nat.{ℕ, ◌<◌}
 use Rattle.record6250.specs.Read.{stray_at}
 use Rattle.reading6250.proofs.stray.first_stray.Given as goal
 
 abbrev pub invariant-loop-g : goal.invariant-loop-g
-invariant-loop-g l = (l.g ≤ length l.maps) × ((j : ℕ) → j < l.g → stray_at l.backward l.words l.maps j ≡ false)
-
-abbrev pub decreases-loop-g : goal.decreases-loop-g
-decreases-loop-g l = length l.maps - l.g
+invariant-loop-g l = (j : ℕ) → j < l.g → stray_at l.backward l.words l.maps j ≡ false

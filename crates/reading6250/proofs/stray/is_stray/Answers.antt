@@ -1,39 +1,22 @@
--- `reading6250::stray::is_stray` meets its contract. The loop's invariant: none of the first `k` words has a stray bit.
+-- `reading6250::stray::is_stray` meets its contract: the numbers are searched as a slice.
 -- Assumes nothing.
-use mathlib.Core.Path.{◌≡◌, sym, ap}
-use Prim.Native.Nat.{◌+◌, ◌-◌}
-use native.Mathlib.Omega.{arith}
-use native.Mathlib.Nat.{not-suc-le-zero}
-use mathlib.Core.Bool.{Bool, false, ◌||◌}
+use Rattle.std.specs.Prelude.{Option, is_some}
+use mathlib.Core.Path.{sym, ap, ◌∙◌}
+use mathlib.Core.Bool.{Bool, ◌||◌}
+use Prim.Native.Nat.{ℕ}
 use lib.Dec.{ltb}
-use borrow.Author.Tests.{le-ltb}
-use lib.ListN.{get_or}
-use Rattle.indexed.proofs.Below.{one_more_below}
-use Rattle.reading6250.proofs.StrayBits.{stray_number, no_stray_number}
-use borrow.Author.Rules.{rules}
+use Rattle.reading6250.proofs.StrayBits.{stray_lent}
 use Rattle.reading6250.proofs.stray.is_stray.Goals as goal
 
-pub loop-k-init : goal.loop-k-init
-loop-k-init c = (search rules, λ j h. absurd (not-suc-le-zero h))
-
-pub returns-then-words-at-gt-MOST_NUMBER : goal.returns-then-words-at-gt-MOST_NUMBER
-returns-then-words-at-gt-MOST_NUMBER c =
+pub returns-then-is_some : goal.returns-then-is_some
+returns-then-is_some c =
     let args = c.args in
-    let at = c.loop-k in
-    sym (ap (λ (b : Bool). b || ltb 511 args.map) (stray_number args.words.now args.at at.k (search rules) at.invariant.1 c.if-words-at-gt-MOST_NUMBER.true))
+    c.if-is_some.true
+    ∙ sym (ap (λ (b : Bool). b || ltb 511 args.map)
+    (sym (stray_lent args.words.now args.at c.requires) ∙ ap (λ (o : Option ℕ). is_some o) (sym c.first_above.ensures) ∙ sym c.is_some.ensures ∙ c.if-is_some.true))
 
-pub loop-k-preserved : goal.loop-k-preserved
-loop-k-preserved c =
+pub returns-else-is_some : goal.returns-else-is_some
+returns-else-is_some c =
     let args = c.args in
-    let at = c.loop-k in (
-      search rules,
-      one_more_below at.k (λ j. ltb 1023 (get_or args.words.now (args.at + j) 0) ≡ false) at.invariant.1
-          (le-ltb 1023 (get_or args.words.now (args.at + at.k) 0) c.if-words-at-gt-MOST_NUMBER.false),
-    )
-
-pub returns : goal.returns
-returns c =
-    let args = c.args in
-    let at = c.loop-k in
-    let all : at.k ≡ 9 = omega arith in
-    sym (ap (λ (b : Bool). b || ltb 511 args.map) (no_stray_number args.words.now args.at (λ j h. at.invariant.1 j (rw all h))))
+    sym (ap (λ (b : Bool). b || ltb 511 args.map)
+    (sym (stray_lent args.words.now args.at c.requires) ∙ ap (λ (o : Option ℕ). is_some o) (sym c.first_above.ensures) ∙ sym c.is_some.ensures ∙ c.if-is_some.false))

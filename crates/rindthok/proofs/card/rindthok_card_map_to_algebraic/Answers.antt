@@ -1,10 +1,10 @@
--- `rindthok::card::rindthok_card_map_to_algebraic` meets its contract, by what the routine and `map_status` ensure.
+-- `rindthok::card::rindthok_card_map_to_algebraic` meets its contract, by what `card::map` and `store_map` ensure.
 -- Assumes nothing.
 use mathlib.Core.List.{[]}
 use Rattle.terms.specs.Call.{move_map, answer_to, result_of}
 use Rattle.terms.proofs.Terms.{nothing_stored}
 use Rattle.track_order.specs.declared.Toward.TheVariants.{Algebraic}
-use Rattle.rindthok.proofs.Called.{called}
+use Rattle.rindthok.proofs.Called.{called, stored_told}
 use Rattle.rindthok.proofs.card.rindthok_card_map_to_algebraic.Goals as goal
 
 pub returns : goal.returns
@@ -12,4 +12,5 @@ unfolding answer_to result_of
 returns c =
     let args = c.args in
     let done = c.map in
-    called (move_map Algebraic args.card.now args.map) _ [] [] _ _ _ _ done.ensures.answer (nothing_stored _) c.map_status.ensures
+    called (move_map Algebraic args.card.now args.map) _ [] [] _ _ _ _ done.ensures.answer (nothing_stored _)
+    (stored_told _ _ _ _ _ _ c.store_map.ensures c.status.ensures.number c.status.ensures.place)

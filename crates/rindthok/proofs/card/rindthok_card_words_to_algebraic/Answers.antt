@@ -1,9 +1,8 @@
--- `rindthok::card::rindthok_card_words_to_algebraic` meets its contract, by what the routine and `stored_status` ensure.
+-- `rindthok::card::rindthok_card_words_to_algebraic` meets its contract, by what `card::words` and `status` ensure.
 -- Assumes nothing.
-use mathlib.Core.List.{[]}
 use Rattle.terms.specs.Call.{move_words, answer_to, result_of}
 use Rattle.track_order.specs.declared.Toward.TheVariants.{Algebraic}
-use Rattle.rindthok.proofs.Called.{called, no_figures}
+use Rattle.rindthok.proofs.Called.{called, stored_told, no_figures}
 use Rattle.rindthok.proofs.card.rindthok_card_words_to_algebraic.Goals as goal
 
 pub returns : goal.returns
@@ -11,4 +10,5 @@ unfolding answer_to result_of
 returns c =
     let args = c.args in
     let done = c.words in
-    called (move_words Algebraic args.card.now args.source.now) _ _ _ _ _ _ _ done.ensures.answer done.ensures.output (c.stored_status.ensures [] [] [] (no_figures done.result))
+    called (move_words Algebraic args.card.now args.source.now) _ _ _ _ _ _ _ done.ensures.answer done.ensures.output
+    (stored_told _ _ _ _ _ _ (no_figures done.result) c.status.ensures.number c.status.ensures.place)

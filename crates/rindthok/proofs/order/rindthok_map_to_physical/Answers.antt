@@ -1,4 +1,4 @@
--- `rindthok::order::rindthok_map_to_physical` meets its contract, by what the routine and `map_status` ensure.
+-- `rindthok::order::rindthok_map_to_physical` meets its contract, by what `standard::map` and `store_map` ensure.
 -- Assumes nothing.
 use mathlib.Core.List.{[]}
 use mathlib.Core.Path.{◌∙◌}
@@ -6,11 +6,13 @@ use Rattle.terms.specs.Call.{standard_map, answer_to, result_of}
 use Rattle.terms.proofs.Terms.{nothing_stored}
 use Rattle.terms.proofs.Moved.{standard_map_lem}
 use Rattle.track_order.specs.declared.Toward.TheVariants.{Physical}
-use Rattle.rindthok.proofs.Called.{called}
+use Rattle.rindthok.proofs.Called.{called, stored_told}
 use Rattle.rindthok.proofs.order.rindthok_map_to_physical.Goals as goal
 
 pub returns : goal.returns
 unfolding answer_to result_of
 returns c =
+    let args = c.args in
     let done = c.map in
-    called (standard_map Physical c.args.map) _ [] [] _ _ _ _ (done.ensures.answer ∙ standard_map_lem Physical _ 0) (nothing_stored _) c.map_status.ensures
+    called (standard_map Physical args.map) _ [] [] _ _ _ _ (done.ensures.answer ∙ standard_map_lem Physical _ 0) (nothing_stored _)
+    (stored_told _ _ _ _ _ _ c.store_map.ensures c.status.ensures.number c.status.ensures.place)

@@ -1,11 +1,10 @@
--- `rindthok::order::rindthok_words_to_algebraic` meets its contract, by what the routine and `stored_status` ensure.
+-- `rindthok::order::rindthok_words_to_algebraic` meets its contract, by what `standard::words` and `status` ensure.
 -- Assumes nothing.
-use mathlib.Core.List.{[]}
 use mathlib.Core.Path.{◌∙◌}
 use Rattle.terms.specs.Call.{standard_words, answer_to, result_of}
 use Rattle.terms.proofs.Moved.{standard_words_lem}
 use Rattle.track_order.specs.declared.Toward.TheVariants.{Algebraic}
-use Rattle.rindthok.proofs.Called.{called, no_figures}
+use Rattle.rindthok.proofs.Called.{called, stored_told, no_figures}
 use Rattle.rindthok.proofs.order.rindthok_words_to_algebraic.Goals as goal
 
 pub returns : goal.returns
@@ -13,4 +12,5 @@ unfolding answer_to result_of
 returns c =
     let args = c.args in
     let done = c.words in
-    called (standard_words Algebraic args.source.now) _ _ _ _ _ _ _ (done.ensures.answer ∙ standard_words_lem Algebraic _ _) done.ensures.output (c.stored_status.ensures [] [] [] (no_figures done.result))
+    called (standard_words Algebraic args.source.now) _ _ _ _ _ _ _ (done.ensures.answer ∙ standard_words_lem Algebraic _ _) done.ensures.output
+    (stored_told _ _ _ _ _ _ (no_figures done.result) c.status.ensures.number c.status.ensures.place)

@@ -3,88 +3,78 @@
 use mathlib.Core.Path.{◌≡◌, refl, ◌∙◌}
 use Prim.Native.Nat.{◌-◌}
 use native.Mathlib.Omega.{arith}
-use borrow.Author.Rules.{rules}
 use lib.ListN.{length}
 use Rattle.indexed.specs.List.{total}
 use Rattle.register.specs.Held.{held}
 use Rattle.register.specs.Sum.{xor_sum}
 use Rattle.record800.specs.Read.{wrong_count}
-use Rattle.scan800.proofs.Gathering.{few_wrong, in_table, data_wrong, check_wrong, last_wrong, step_asks, step, finish}
+use Rattle.scan800.proofs.Passing.{passes}
+use Rattle.scan800.proofs.Gathering.{few_wrong, nine_bits, data_wrong, check_wrong, last_wrong, step_asks, step, finish}
 use Rattle.record800.proofs.Picture.{lengths_within}
 use Rattle.scan800.proofs.gather.gather.Goals as goal
 
 pub overflow_sub-n : goal.overflow_sub-n
-overflow_sub-n c = omega (arith, lengths_within _ _ c.requires.0)
-
-pub fresh-registers-requires : goal.fresh-registers-requires
-fresh-registers-requires c = tt
+overflow_sub-n c = omega (arith, lengths_within _ _ (passes c.args.passed.now))
 
 pub loop-k-init : goal.loop-k-init
 unfolding held xor_sum total
-loop-k-init c = (search rules, (c.fresh-registers.ensures.0, c.fresh-registers.ensures.1, refl, refl))
+loop-k-init c = (c.fresh-registers.ensures.0, c.fresh-registers.ensures.1, refl, refl)
 
-pub bounds-parities-next : goal.bounds-parities-next
-bounds-parities-next c =
-    in_table c.requires.0 c.requires.1 _ c.forward_character-next.ensures
+pub parity-off-requires : goal.parity-off-requires
+parity-off-requires c = nine_bits (passes c.args.passed.now) _ c.character-next.ensures
 
-pub stepped-registers-requires : goal.stepped-registers-requires
-stepped-registers-requires c =
-    let is-flag = data_wrong c.requires.0 c.requires.1 _ c.forward_character-next.ensures c.loop-k-test.true in
-    step_asks c.requires.0 _ _ c.loop-k.invariant.1 is-flag
+pub enter-requires : goal.enter-requires
+enter-requires c =
+    let is-flag = data_wrong (passes c.args.passed.now) _ c.character-next.ensures c.parity-off.ensures c.loop-k-test.true in
+    step_asks (passes c.args.passed.now) _ _ c.loop-k.invariant is-flag
 
 pub loop-k-preserved : goal.loop-k-preserved
 loop-k-preserved c =
-    let passes = c.requires.0 in
     let at = c.loop-k in
-    let next = c.forward_character-next.ensures in
-    let stepped = step passes at.k at.invariant.1 next (data_wrong passes c.requires.1 at.k next c.loop-k-test.true) in
-    (search rules, (c.stepped-registers.ensures.0 ∙ stepped.0, c.stepped-registers.ensures.1 ∙ stepped.1, stepped.2, stepped.3))
+    let next = c.character-next.ensures in
+    let stepped = step (passes c.args.passed.now) at.k at.invariant next (data_wrong (passes c.args.passed.now) at.k next c.parity-off.ensures c.loop-k-test.true) in
+    (c.enter.ensures.0 ∙ stepped.0, c.enter.ensures.1 ∙ stepped.1, stepped.2, stepped.3)
 
 pub overflow_add-wrong : goal.overflow_add-wrong
-overflow_add-wrong c = omega (arith, few_wrong c.requires.0 _ (loop-k-preserved c).1.3 (omega (arith, (loop-k-preserved c).0)))
+overflow_add-wrong c = omega (arith, few_wrong (passes c.args.passed.now) _ (loop-k-preserved c).3 (omega (arith, c.loop-k-test.true)))
 
-pub overflow_cast-wrong : goal.overflow_cast-wrong
-overflow_cast-wrong c = omega (arith, (overflow_add-wrong c).fits)
+pub character-check-requires : goal.character-check-requires
+character-check-requires c = omega (arith, lengths_within _ _ (passes c.args.passed.now))
 
-pub forward_character-check-requires : goal.forward_character-check-requires
-forward_character-check-requires c = omega (arith, lengths_within _ _ c.requires.0)
+pub overflow_add-check_off : goal.overflow_add-check_off
+overflow_add-check_off c = omega (arith, lengths_within _ _ (passes c.args.passed.now))
 
-pub bounds-parities-check : goal.bounds-parities-check
-bounds-parities-check c =
-    in_table c.requires.0 c.requires.1 _ c.forward_character-check.ensures
+pub overflow_add-n : goal.overflow_add-n
+overflow_add-n c = omega (arith, lengths_within _ _ (passes c.args.passed.now))
 
-pub forward_character-last-requires : goal.forward_character-last-requires
-forward_character-last-requires c = omega (arith, lengths_within _ _ c.requires.0)
+pub parity-requires : goal.parity-requires
+parity-requires c = nine_bits (passes c.args.passed.now) _ c.character-check.ensures
 
-pub bounds-parities-last : goal.bounds-parities-last
-bounds-parities-last c =
-    in_table c.requires.0 c.requires.1 _ c.forward_character-last.ensures
+pub character-last-requires : goal.character-last-requires
+character-last-requires c = omega (arith, lengths_within _ _ (passes c.args.passed.now))
 
-pub stepped-entered-requires : goal.stepped-entered-requires
-stepped-entered-requires c =
-    let is-flag = check_wrong c.requires.0 c.requires.1 c.forward_character-check.ensures in
-    step_asks c.requires.0 _ _ c.loop-k.invariant.1 is-flag
+pub parity-last_off-requires : goal.parity-last_off-requires
+parity-last_off-requires c = nine_bits (passes c.args.passed.now) _ c.character-last.ensures
+
+pub enter-requires-2 : goal.enter-requires-2
+enter-requires-2 c =
+    let is-flag = check_wrong (passes c.args.passed.now) c.character-check.ensures c.parity.ensures in
+    step_asks (passes c.args.passed.now) _ _ c.loop-k.invariant is-flag
 
 pub returns : goal.returns
 returns c =
-    let passes = c.requires.0 in
+    let passes = (passes c.args.passed.now) in
     let at = c.loop-k in
-    let all : at.k ≡ length c.args.characters.now - 2 = omega arith in
-    let check = c.forward_character-check.ensures in
-    let last = c.forward_character-last.ensures in
-    let entered = step passes _ (rw all at at.invariant.1) check (check_wrong passes c.requires.1 check) in
-    let told = finish passes entered last (last_wrong passes c.requires.1 last) in
-    (c.stepped-entered.ensures.0 ∙ told.0, c.stepped-entered.ensures.1 ∙ told.1, told.2, told.3)
+    let all : at.k ≡ length c.args.passed.now.reading.characters.now - 2 = omega arith in
+    let check = c.character-check.ensures in
+    let last = c.character-last.ensures in
+    let entered = step passes _ (rw all at at.invariant) check (check_wrong passes check c.parity.ensures) in
+    let told = finish passes entered last (last_wrong passes last c.parity-last_off.ensures) in
+    (c.enter-2.ensures.0 ∙ told.0, c.enter-2.ensures.1 ∙ told.1, told.2, told.3)
 
 pub overflow_add-result-2 : goal.overflow_add-result-2
 unfolding wrong_count
-overflow_add-result-2 c = omega (arith, few_wrong c.requires.0 _ (returns c).3 (omega arith))
-
-pub overflow_cast-result : goal.overflow_cast-result
-overflow_cast-result c = omega (arith, (overflow_add-result-2 c).fits)
+overflow_add-result-2 c = omega (arith, few_wrong (passes c.args.passed.now) _ (returns c).3 (omega arith))
 
 pub overflow_add-result : goal.overflow_add-result
 overflow_add-result c = omega (arith, (overflow_add-result-2 c).fits)
-
-pub overflow_cast-result-2 : goal.overflow_cast-result-2
-overflow_cast-result-2 c = omega (arith, (overflow_add-result-2 c).fits)

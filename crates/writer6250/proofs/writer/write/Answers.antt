@@ -8,7 +8,7 @@ use native.Mathlib.Omega.{arith}
 use borrow.Author.Rules.{rules}
 use borrow.Author.Tests.{le-leb, lt-leb}
 use lib.ListN.{length}
-use Rattle.answer.specs.Answer.{output_after}
+use Rattle.answer.specs.Answer.{told_refusal, output_after}
 use Rattle.record6250.specs.Record.{groups_for, group_words}
 use Rattle.record6250.specs.Tape.{numbers_from}
 use Rattle.record6250.specs.Written.{write_answer}
@@ -21,7 +21,7 @@ use Rattle.writer6250.proofs.writer.write.Goals as goal
 pub returns-then-bytes-gt-MOST_DATA : goal.returns-then-bytes-gt-MOST_DATA
 unfolding write_answer answer_to result_of written_record
 returns-then-bytes-gt-MOST_DATA c =
-    let refused = refused_with_terms _ _ (write bpi6250 c.args.bytes.now) _ _ c.refused.ensures (simp (lt-leb _ _ c.if-bytes-gt-MOST_DATA.true)) in record {
+    let refused = refused_with_terms _ _ (write bpi6250 c.args.bytes.now) _ _ (ap told_refusal c.into.ensures) (simp (lt-leb _ _ c.if-bytes-gt-MOST_DATA.true)) in record {
       answer = refused.0;
       output = refused.1.0;
       terms = refused.1.1;
@@ -31,7 +31,7 @@ pub returns-then-words-full : goal.returns-then-words-full
 unfolding write_answer groups_for answer_to result_of written_record
 returns-then-words-full c =
     let bytes = c.args.bytes.now in
-    let refused = refused_with_terms _ _ (write bpi6250 bytes) _ _ c.refused-then-words-full.ensures
+    let refused = refused_with_terms _ _ (write bpi6250 bytes) _ _ (ap told_refusal c.into-then-words-full.ensures)
     (simp (le-leb _ _ c.if-bytes-gt-MOST_DATA.false, lt-leb (9 * (length bytes / 7 + 1)) (length c.args.words.now) (omega arith))) in record {
       answer = refused.0;
       output = refused.1.0;

@@ -3,7 +3,6 @@
 use mathlib.Core.Path.{◌≡◌, refl, ap, ◌∙◌}
 use Prim.Native.Nat.{ℕ, ◌/◌}
 use native.Mathlib.Omega.{arith}
-use borrow.Author.Rules.{rules}
 use lib.ListN.{length}
 use Rattle.indexed.specs.List.{blocks}
 use Rattle.record6250.specs.Record.{first_groups}
@@ -13,24 +12,17 @@ use Rattle.writer6250.proofs.writer.write_groups.Goals as goal
 
 pub loop-g-init : goal.loop-g-init
 unfolding groups_stored first_groups blocks
-loop-g-init c = (search rules, refl, refl)
+loop-g-init c = refl
 
 pub loop-g-preserved : goal.loop-g-preserved
 loop-g-preserved c =
-    let at = c.loop-g in
     let args = c.args in
-    let lent = c.store in
-    let group = c.written in
-    let whole = one_more args.bytes.now args.words.now at.g at.words _ _ at.invariant.2
-    (full_words args.bytes.now _ at.g (omega arith) group.ensures) lent.ensures in
-    (search rules, search rules, whole)
-
-pub shape_of-words : goal.shape_of-words
-shape_of-words c = c.loop-g.invariant.1
+    let g = c.loop-g.g in
+    one_more args.bytes.now args.words.now g c.loop-g.words _ _ c.loop-g.invariant
+    (full_words args.bytes.now _ g (omega arith) c.written.ensures) c.store.ensures
 
 pub returns : goal.returns
 returns c =
-    let at = c.loop-g in
     let args = c.args in
-    let all : at.g ≡ length args.bytes.now / 7 = omega arith in
-    at.invariant.2 ∙ ap (λ (g : ℕ). groups_stored g args.bytes.now args.words.now) all
+    let all : c.loop-g.g ≡ length args.bytes.now / 7 = omega arith in
+    c.loop-g.invariant ∙ ap (λ (g : ℕ). groups_stored g args.bytes.now args.words.now) all

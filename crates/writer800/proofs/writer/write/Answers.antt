@@ -5,29 +5,19 @@ use mathlib.Core.List.{List}
 use Prim.Native.Nat.{ℕ, ◌+◌, ◌<◌}
 use lib.ListN.{length, get_or, set}
 use Rattle.register.specs.Xor.{◌⊕◌}
-use Rattle.answer.specs.Answer.{output_after}
+use Rattle.answer.specs.Answer.{told_refusal, output_after}
 use Rattle.record800.proofs.Answer.{write_delivers}
 use Rattle.terms.proofs.Terms.{with_terms, refused_with_terms}
 use Rattle.terms.specs.Call.{write, answer_to, result_of}
 use Rattle.terms.specs.Reading.{bpi800, written_record}
-use Rattle.writer800.proofs.Writing.{empty_refused, long_refused, space_refused, check_fits, check_is, all_stored}
+use Rattle.writer800.proofs.Writing.{length_refused, space_refused, check_fits, check_is, all_stored}
 use Rattle.writer800.proofs.writer.write.Goals as goal
 
 pub returns-then-n-lt-LEAST_DATA : goal.returns-then-n-lt-LEAST_DATA
 unfolding answer_to result_of written_record
 returns-then-n-lt-LEAST_DATA c =
-    let refused = refused_with_terms _ _ (write bpi800 c.args.bytes.now) _ _ c.refused.ensures
-    (empty_refused _ _ c.if-n-lt-LEAST_DATA.true) in record {
-      answer = refused.0;
-      output = refused.1.0;
-      terms = refused.1.1;
-    }
-
-pub returns-then-n-gt-MOST_DATA : goal.returns-then-n-gt-MOST_DATA
-unfolding answer_to result_of written_record
-returns-then-n-gt-MOST_DATA c =
-    let refused = refused_with_terms _ _ (write bpi800 c.args.bytes.now) _ _ c.refused-then-n-gt-MOST_DATA.ensures
-    (long_refused _ _ c.if-n-lt-LEAST_DATA.false c.if-n-gt-MOST_DATA.true) in record {
+    let refused = refused_with_terms _ _ (write bpi800 c.args.bytes.now) _ _ (ap told_refusal c.into.ensures)
+    (length_refused _ _ c.then-n-lt-LEAST_DATA.either) in record {
       answer = refused.0;
       output = refused.1.0;
       terms = refused.1.1;
@@ -36,7 +26,7 @@ returns-then-n-gt-MOST_DATA c =
 pub returns-then-characters-n : goal.returns-then-characters-n
 unfolding answer_to result_of written_record
 returns-then-characters-n c =
-    let refused = refused_with_terms _ _ (write bpi800 c.args.bytes.now) _ _ c.refused-then-characters-n.ensures
+    let refused = refused_with_terms _ _ (write bpi800 c.args.bytes.now) _ _ (ap told_refusal c.into-then-characters-n.ensures)
     (space_refused _ _ c.if-n-lt-LEAST_DATA.false c.if-n-gt-MOST_DATA.false c.if-characters-n.true) in record {
       answer = refused.0;
       output = refused.1.0;

@@ -1,8 +1,7 @@
--- `writer800::writer::write_data` meets its contract. The loop's invariant: the first `k` characters are stored and summed.
+-- `writer800::writer::write_data` meets its contract. The loop's invariant: the first characters are stored and summed.
 -- Assumes nothing.
 use mathlib.Core.Path.{◌≡◌}
 use mathlib.Core.List.{map}
-use Prim.Native.Nat.{◌-◌, ◌≤◌}
 use lib.ListN.{length, get_or}
 use Rattle.indexed.proofs.Front.{front}
 use Rattle.register.specs.Sum.{xor_sum}
@@ -10,8 +9,5 @@ use Rattle.record800.specs.Record.{character_of, check_sum}
 use Rattle.writer800.proofs.writer.write_data.Given as goal
 
 abbrev pub invariant-loop-k : goal.invariant-loop-k
-invariant-loop-k l = (l.k ≤ length l.bytes) × (length l.characters ≡ length l.initial.characters) × (l.characters ≡ front l.k (map character_of l.bytes) l.initial.characters)
+invariant-loop-k l = (length l.characters ≡ length l.initial.characters) × (l.characters ≡ front l.k (map character_of l.bytes) l.initial.characters)
     × (l.check ≡ check_sum l.k (λ i. character_of (get_or l.bytes i 0))) × (l.longitudinal ≡ xor_sum l.k (λ i. character_of (get_or l.bytes i 0)))
-
-abbrev pub decreases-loop-k : goal.decreases-loop-k
-decreases-loop-k l = length l.bytes - l.k

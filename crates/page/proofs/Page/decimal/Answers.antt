@@ -1,0 +1,14 @@
+-- `page::Page::decimal` meets its contract: the digits are those of `io::decimal`.
+-- Assumes nothing.
+use Prim.Native.Nat.{◌^◌, ◌<◌}
+use mathlib.Core.Path.{sym, ◌∙◌}
+use native.Mathlib.Omega.{arith}
+use Rattle.page.proofs.Printed.{digits_numeral}
+use Rattle.page.proofs.Page.decimal.Goals as goal
+
+pub returns : goal.returns
+returns c =
+    let d = c.decimal-count in
+    let small : c.args.number < 10 ^ 20 = omega (arith, c.ranges.number.fits) in
+    let text = d.ensures.digits ∙ digits_numeral 10 1 _ _ (omega arith) (omega arith) (omega arith) small d.ensures.len in
+    rw (sym text) c.put.ensures
