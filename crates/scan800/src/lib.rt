@@ -33,18 +33,20 @@ impl Figures {
         ensures { result ≡ track_changes (track_told self.track) self.changes }
     {
         let mut counts = [0; Code800::TRACKS];
+        self.store_counts(&mut counts);
+        counts
+    }
+
+    // Stores the changes of each track, in the caller's own array, which is faster than one that is handed back (decision D34). Any track is
+    // answered.
+    pub fn store_counts(self, counts: &mut [usize; Code800::TRACKS])
+        ensures { counts.new ≡ track_changes (track_told self.track) self.changes }
+    {
+        *counts = [0; Code800::TRACKS];
         if let Some(track) = self.track {
             if track < Code800::TRACKS {
                 counts[track] = self.changes;
             }
         }
-        counts
-    }
-
-    // Stores the changes of each track.
-    pub fn store_counts(self, counts: &mut [usize; Code800::TRACKS])
-        ensures { counts.new ≡ track_changes (track_told self.track) self.changes }
-    {
-        *counts = self.counts();
     }
 }

@@ -1,3 +1,3 @@
-// The steps that walks by hand share: a function that lends a struct by `&mut`, or passes one that holds a reference, is proved by
-// a walk over its MIR. It has no code and no definitions, so that no promise stands on it: proofs/ has the steps.
+// The steps that walks by hand share, over the MIR of a function. No function is proved by one now, since the borrow checker covers
+// those that were (decision D21). It has no code and no definitions, so that no promise stands on it: proofs/ has the steps.
 #![tactic(auto)]

@@ -1,9 +1,9 @@
--- `scan800::Figures::counts` meets its contract, by whether there is a track, and whether it is one of the nine.
+-- `scan800::Figures::store_counts` meets its contract, by whether there is a track, and whether it is one of the nine.
 -- Assumes nothing.
 use native.Mathlib.Omega.{arith}
 use Rattle.indexed.proofs.Only.{only_set, only_none}
 use Rattle.record800.specs.Read.{track_changes}
-use Rattle.scan800.proofs.Figures.counts.Goals as goal
+use Rattle.scan800.proofs.Figures.store_counts.Goals as goal
 
 pub returns-then-track-lt-TRACKS : goal.returns-then-track-lt-TRACKS
 unfolding track_changes
