@@ -11,12 +11,12 @@ use borrow.Author.Tests.{le-leb, lt-leb, lt-ltb, le-ltb, leb-true, leb-false, lt
 use lib.Dec.{leb, ltb}
 use lib.ListN.{length, length-append, take}
 use lib.Seq.{length-take-le}
-use Rattle.std.specs.Prelude.{Option, None, Some}
+use Rattle.std.specs.Prelude.{Option, None, Some, Ok, Err}
 use Rattle.std.proofs.Common.{append-nil, append_assoc}
 use Rattle.io.specs.Digits.{last_digits, hex_digit_ascii, IsDigitCount}
 use Rattle.indexed.specs.List.{first_below}
 use Rattle.indexed.proofs.Below.{first_below_at, first_below_before, first_below_le}
-use Rattle.page.specs.Page.{page_size, text_after, Printed, places, numeral}
+use Rattle.page.specs.Page.{page_size, PageText, whole_text, text_after, Printed, places, numeral}
 
 module _ (held text : List ℕ) where
   pub after_fits : length text ≤ page_size - length held → text_after (Some held) text ≡ Some (held ++ text)
@@ -27,19 +27,19 @@ module _ (held text : List ℕ) where
   unfolding text_after
   after_over h = rw (lt-leb _ _ h) refl
 
--- a text that does not fit leaves none
-pub not_printed : (bytes : List ℕ) (held : ℕ) (text : List ℕ) → held ≤ page_size → length bytes ≡ page_size → page_size - held < length text → Printed text (Some (take held bytes)) None
+-- of a page on which a text does not fit nothing is handed over
+pub not_printed : (bytes : List ℕ) (held : ℕ) (text : List ℕ) → held ≤ page_size → length bytes ≡ page_size → page_size - held < length text → Printed text (Ok (take held bytes)) (Err (take held bytes))
 not_printed bytes held text within size over =
     sym (after_over (take held bytes) text (omega (arith, over, length-take-le held bytes (rw size within))))
 
 -- no text changes nothing
-pub after_none : (page : Option (List ℕ)) → text_after page [] ≡ page
+pub after_none : (whole : Option (List ℕ)) → text_after whole [] ≡ whole
 unfolding text_after
 after_none None = refl
 after_none (Some held) = after_fits held [] (omega arith) ∙ ap Some (append-nil held)
 
 -- one text behind another
-pub after_both : (page : Option (List ℕ)) (a b : List ℕ) → text_after (text_after page a) b ≡ text_after page (a ++ b)
+pub after_both : (whole : Option (List ℕ)) (a b : List ℕ) → text_after (text_after whole a) b ≡ text_after whole (a ++ b)
 unfolding text_after
 after_both None a b = refl
 after_both (Some held) a b = by (leb (length a) (page_size - length held)) refl
@@ -58,8 +58,8 @@ after_both (Some held) a b = by (leb (length a) (page_size - length held)) refl
     by true e = ap (λ p. text_after p b) (after_fits held a (leb-true _ _ e)) ∙ rest (leb-true _ _ e)
     by false e = ap (λ p. text_after p b) (after_over held a (leb-false _ _ e)) ∙ sym (after_over held (a ++ b) (omega (arith, leb-false _ _ e, length-append a b)))
 
-pub printed_both : (a b : List ℕ) (p : Option (List ℕ)) {q r : Option (List ℕ)} → Printed a p q → Printed b q r → Printed (a ++ b) p r
-printed_both a b p s t = t ∙ ap (λ q. text_after q b) s ∙ after_both p a b
+pub printed_both : (a b : List ℕ) (p q r : PageText) → Printed a p q → Printed b q r → Printed (a ++ b) p r
+printed_both a b p q r s t = t ∙ ap (λ w. text_after w b) s ∙ after_both (whole_text p) a b
 
 -- the places of a number are the fewest that hold it
 module _ (base least n k : ℕ) (b : 1 ≤ base) (l : 1 ≤ least) (short : least ≤ 20) (small : n < base ^ 20) (f : IsDigitCount base least n k) where

@@ -11,4 +11,4 @@ returns c =
     let d = c.decimal-count in
     let small : c.args.number < 10 ^ 20 = omega (arith, c.ranges.number.fits) in
     let text = d.ensures.digits ∙ digits_numeral 10 1 _ _ (omega arith) (omega arith) (omega arith) small d.ensures.len in
-    rw (sym text) c.put.ensures
+    record { text = rw (sym text) c.put.ensures.text; kept = rw (sym text) c.put.ensures.kept }

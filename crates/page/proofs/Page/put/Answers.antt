@@ -1,10 +1,10 @@
--- `page::Page::put` meets its contract: a text that does not fit leaves none.
+-- `page::Page::put` meets its contract: of a page on which the text does not fit nothing is handed over.
 -- Assumes nothing.
 use mathlib.Core.Path.{sym}
 use Rattle.page.proofs.Printed.{not_printed}
 use Rattle.page.proofs.Page.put.Goals as goal
 
-pub returns-then-text-held : goal.returns-then-text-held
-returns-then-text-held c =
-    let within = rw c.in-Some.is at c.self.invariant in
-    rw (sym c.self.view_is, c.in-Some.is) (not_printed c.self.inside.bytes c.in-Some.held c.args.text.now within c.self.told c.if-text-held.true)
+pub returns-then-text-held-clause-text : goal.returns-then-text-held-clause-text
+returns-then-text-held-clause-text c =
+    let within = rw c.in-Ok.is at c.self.invariant in
+    rw (sym c.self.view_is, c.in-Ok.is) (not_printed c.self.inside.bytes c.in-Ok.held c.args.text.now within c.self.told c.if-text-held.true)
