@@ -1,5 +1,5 @@
 // What is told of a read or a write that failed: the number of the error, and for the usual ones what it means.
-ghost use Rattle.std.specs.Prelude.{[], ◌≡◌, Some};
+ghost use Rattle.std.specs.Prelude.{[], ◌≡◌, Ok};
 ghost use Rattle.page.specs.Page.{Printed};
 ghost use Rattle.streams.specs.Message.{meaning_text, error_text, cut_text, unread_text, unwritten_text};
 ghost use Rattle.streams.specs.Ended.{Tells};
@@ -78,7 +78,7 @@ pub fn unread(page: &mut Page, failure: Failure) -> Text
 // The message of an output of so many bytes that could not be written whole.
 #[tactic(auto, using(page::proofs::Printed::after_both))]
 pub(crate) fn put_unwritten(page: &mut Page, sent: Result<usize, Failure>, all: usize)
-    ensures { Printed (unwritten_text sent all) (Some []) page.new }
+    ensures { Printed (unwritten_text sent all) (Ok []) page.new }
 {
     page.clear();
     page.put(b"cannot write standard output: ");
