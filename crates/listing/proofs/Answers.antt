@@ -13,7 +13,8 @@ use Rattle.record6250.specs.Record.{written_record, groups_for}
 use Rattle.record6250.specs.Written.{write_answer}
 use Rattle.record6250.proofs.Answer.{written_passed}
 use Rattle.record6250.proofs.Record.{length_record}
-use Rattle.std.specs.Prelude.{Option, Result, Ok, Err}
+use Rattle.std.specs.Prelude.{Result, Ok, Err}
+use Rattle.page.specs.Page.{PageText}
 use Rattle.streams.specs.Message.{unread_text}
 use Rattle.streams.specs.Ended.{Prints, Tells}
 use Rattle.streams.specs.declared.Text.{Text}
@@ -43,7 +44,7 @@ module _ (bytes : List ℕ) (r : Result ℕ Refusal) (told : told_written r ≡ 
   pub refused_text : (refusal : Refusal) → r ≡ Err refusal → refusal_text (number_of refusal.reason) refusal.place ≡ listing_text bytes
   refused_text refusal e = ap (answer_text (written_record bytes)) (sym (ap told_written e) ∙ told)
 
-module _ (page : Option (List ℕ)) where
+module _ (page : PageText) where
   pub listed_text : (bytes : List ℕ) (r : Text) → Prints (listing_text bytes) page r → Listed page r
   listed_text bytes Output h = (bytes, h)
   listed_text bytes Message h = absurd h

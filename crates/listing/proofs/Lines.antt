@@ -9,23 +9,22 @@ use native.Mathlib.Omega.{arith}
 use lib.ListN.{length, get_or, take, drop, length-drop}
 use lib.Seq.{take_all}
 use Rattle.std.proofs.Common.{get_or-take, get_or-drop}
-use Rattle.std.specs.Prelude.{Option}
 use Rattle.indexed.specs.List.{blocks}
 use Rattle.indexed.proofs.Blocks.{blocks_same}
 use Rattle.rectangular.specs.Constants.{numbers_per_group}
 use Rattle.page.specs.Ascii.{ascii}
-use Rattle.page.specs.Page.{Printed}
+use Rattle.page.specs.Page.{PageText, whole_text, Printed}
 use Rattle.page.proofs.Printed.{after_none, printed_both}
 use Rattle.listing.specs.Listing.{word_text, group_text, record_text}
 
 -- no block of text, and one more
-pub blocks_none : (f : ℕ → List ℕ) (page : Option (List ℕ)) → Printed (blocks 0 f) page page
+pub blocks_none : (f : ℕ → List ℕ) (page : PageText) → Printed (blocks 0 f) page page
 unfolding blocks
-blocks_none f page = sym (after_none page)
+blocks_none f page = sym (after_none (whole_text page))
 
-pub blocks_more : (n : ℕ) (f : ℕ → List ℕ) (p : Option (List ℕ)) {q r : Option (List ℕ)} → Printed (blocks n f) p q → Printed (f n) q r → Printed (blocks (n + 1) f) p r
+pub blocks_more : (n : ℕ) (f : ℕ → List ℕ) (p q r : PageText) → Printed (blocks n f) p q → Printed (f n) q r → Printed (blocks (n + 1) f) p r
 unfolding blocks
-blocks_more n f p s t = rw (add-one n) (printed_both (blocks n f) (f n) p s t)
+blocks_more n f p q r s t = rw (add-one n) (printed_both (blocks n f) (f n) p q r s t)
 
 -- the text of a record is that of its words
 pub record_same : (groups : ℕ) (words others : List ℕ) → ((k : ℕ) → k < numbers_per_group * groups → get_or words k 0 ≡ get_or others k 0) → record_text words groups ≡ record_text others groups

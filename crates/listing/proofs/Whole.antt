@@ -15,6 +15,7 @@ use Rattle.answer.specs.Answer.{refused_for}
 use Rattle.answer.specs.declared.Reason.TheVariants.{Length}
 use Rattle.rectangular.specs.Constants.{most_data}
 use Rattle.record6250.specs.Written.{write_answer}
+use Rattle.page.specs.Page.{PageText}
 use Rattle.streams.specs.Message.{unread_text}
 use Rattle.streams.specs.Ended.{Prints, Tells}
 use Rattle.streams.specs.declared.Text.{Text}
@@ -41,7 +42,7 @@ whole_listing bytes None left' e end = tt
 whole_listing bytes (Some all) None e end = absurd e
 whole_listing bytes (Some all) (Some rest) e end = all_listed bytes rest end ∙ ap listing_text (sym e)
 
-module _ (page : Option (List ℕ)) (left : Option (List ℕ)) where
+module _ (page : PageText) (left : Option (List ℕ)) where
   pub listed_whole : (bytes : List ℕ) (r : Text) → Prints (listing_text bytes) page r → IfSome left (λ all. listing_text bytes ≡ listing_text all) → IfSome left (λ all. ListedOf all page r)
   listed_whole bytes r h same = of left same
     where

@@ -1,7 +1,7 @@
 -- What the listing program prints (document 01, "Bench readings"): a line of nine words, single spaces, for each group; or the
 -- refusal.
 -- Assumes nothing.
-use Rattle.std.specs.Prelude.{ℕ, ◌+◌, ◌*◌, cond, List, [], ◌∷◌, ◌++◌, eqb, length, get_or, Option, Some}
+use Rattle.std.specs.Prelude.{ℕ, ◌+◌, ◌*◌, cond, List, [], ◌∷◌, ◌++◌, eqb, length, get_or, Ok}
 use Rattle.answer.specs.Answer.{Answer, delivered, refused}
 use Rattle.indexed.specs.List.{blocks}
 use Rattle.rectangular.specs.Constants.{numbers_per_group, most_groups}
@@ -10,7 +10,7 @@ use Rattle.record6250.specs.Written.{write_answer}
 use Rattle.answer_text.specs.Refusal.{refusal_text}
 use Rattle.page.specs.Ascii.{ascii}
 use Rattle.streams.specs.Message.{unread_text}
-use Rattle.page.specs.Page.{decimal_text, Printed}
+use Rattle.page.specs.Page.{PageText, decimal_text, Printed}
 use Rattle.streams.specs.declared.Text.{Text}
 use Rattle.streams.specs.declared.Text.TheVariants.{Output, Message}
 
@@ -43,11 +43,11 @@ abbrev pub listing_text : List ℕ → List ℕ
 listing_text bytes = answer_text (written_record bytes) (write_answer (length bytes) most_words)
 
 -- what is put on a page: the listing of data, and nothing else, for standard output; or why there are none, for standard error
-abbrev pub Listed : Option (List ℕ) → Text → Type 0
-Listed page Output = (bytes : List ℕ) × Printed (listing_text bytes) (Some []) page
-Listed page Message = (number : ℕ) × Printed (unread_text number) (Some []) page
+abbrev pub Listed : PageText → Text → Type 0
+Listed page Output = (bytes : List ℕ) × Printed (listing_text bytes) (Ok []) page
+Listed page Message = (number : ℕ) × Printed (unread_text number) (Ok []) page
 
 -- and of data that are known: their own listing, to the last byte, also where they are too long; or a read failed
-abbrev pub ListedOf : List ℕ → Option (List ℕ) → Text → Type 0
-ListedOf bytes page Output = Printed (listing_text bytes) (Some []) page
-ListedOf bytes page Message = (number : ℕ) × Printed (unread_text number) (Some []) page
+abbrev pub ListedOf : List ℕ → PageText → Text → Type 0
+ListedOf bytes page Output = Printed (listing_text bytes) (Ok []) page
+ListedOf bytes page Message = (number : ℕ) × Printed (unread_text number) (Ok []) page

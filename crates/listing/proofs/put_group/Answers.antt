@@ -15,10 +15,10 @@ pub loop-j-preserved : goal.loop-j-preserved
 loop-j-preserved c =
     let l = c.loop-j in
     let word = front_word c.args.words.now 9 l.j (omega (arith, c.loop-j-test.true, length-take-le 9 c.args.words.now c.requires)) in
-    blocks_more l.j _ _ l.invariant (rw (sym word) c.put_word.ensures)
+    blocks_more l.j _ c.args.page.now _ _ l.invariant (rw (sym word) c.put_word.ensures)
 
 pub returns : goal.returns
 returns c =
     let l = c.loop-j in
     let all : l.j ≡ numbers_per_group = omega (arith, c.loop-j-test.false, l.auto.j-end, length-take-le 9 c.args.words.now c.requires) in
-    printed_both _ _ _ (rw (sym all) l.invariant) c.put.ensures
+    printed_both _ _ c.args.page.now _ _ (rw (sym all) l.invariant) c.put.ensures.text

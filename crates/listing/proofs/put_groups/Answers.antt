@@ -12,4 +12,4 @@ loop-g-init c = blocks_none _ _
 pub loop-g-preserved : goal.loop-g-preserved
 loop-g-preserved c =
     let l = c.loop-g in
-    blocks_more l.g _ _ l.invariant (rw (sym (group_at c.args.words.now (numbers_per_group * l.g))) c.put_group.ensures)
+    blocks_more l.g _ c.args.page.now _ _ l.invariant (rw (sym (group_at c.args.words.now (numbers_per_group * l.g))) c.put_group.ensures)
