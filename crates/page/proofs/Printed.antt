@@ -16,7 +16,7 @@ use Rattle.std.proofs.Common.{append-nil, append_assoc}
 use Rattle.io.specs.Digits.{last_digits, hex_digit_ascii, IsDigitCount}
 use Rattle.indexed.specs.List.{first_below}
 use Rattle.indexed.proofs.Below.{first_below_at, first_below_before, first_below_le}
-use Rattle.page.specs.Page.{page_size, PageText, whole_text, text_after, Printed, places, numeral}
+use Rattle.page.specs.Page.{page_size, PageText, whole_text, held_count, text_after, Printed, places, numeral}
 
 module _ (held text : List ℕ) where
   pub after_fits : length text ≤ page_size - length held → text_after (Some held) text ≡ Some (held ++ text)
@@ -31,6 +31,11 @@ module _ (held text : List ℕ) where
 pub not_printed : (bytes : List ℕ) (held : ℕ) (text : List ℕ) → held ≤ page_size → length bytes ≡ page_size → page_size - held < length text → Printed text (Ok (take held bytes)) (Err (take held bytes))
 not_printed bytes held text within size over =
     sym (after_over (take held bytes) text (omega (arith, over, length-take-le held bytes (rw size within))))
+
+-- of what is handed over each byte is counted
+pub whole_count : (page : PageText) (text : List ℕ) → whole_text page ≡ Some text → held_count page ≡ length text
+whole_count (Ok held) text e = cc
+whole_count (Err held) text e = cc
 
 -- no text changes nothing
 pub after_none : (whole : Option (List ℕ)) → text_after whole [] ≡ whole

@@ -12,8 +12,8 @@ use Rattle.sense_log.proofs.Answer.{back_delivered}
 use Rattle.sense_log.proofs.Back.{length_maps_of}
 use Rattle.sense_log.proofs.Marks.{most_marks_lem}
 use Rattle.log_reader.specs.Told.{told_back}
-use Rattle.std.specs.Prelude.{Option, None, Result, Ok, Err}
-use Rattle.page.specs.Page.{Printed}
+use Rattle.std.specs.Prelude.{None, Result, Ok, Err}
+use Rattle.page.specs.Page.{PageText, Printed}
 use Rattle.track_counts.specs.Counts.{counts_told}
 use Rattle.track_counts.specs.declared.Counts.{Counts}
 use Rattle.sense_log.specs.Back.{maps_of}
@@ -34,7 +34,7 @@ module _ (groups : ℕ) (log : List ℕ) where
     is_delivered marks e = sym told ∙ ap told_back e
 
     -- the line of a refusal is the last
-    pub refusal_put : (refusal : Refusal) → r ≡ Err refusal → (total : ℕ) (page page' : Option (List ℕ))
+    pub refusal_put : (refusal : Refusal) → r ≡ Err refusal → (total : ℕ) (page page' : PageText)
         → Printed (refusal_text (number_of refusal.reason) refusal.place) page page' → LogPut groups log total page page' None
     refusal_put refusal e total page page' put = (number_of refusal.reason, refusal.place, sym told ∙ ap told_back e, put)
 

@@ -8,10 +8,10 @@ use native.Mathlib.Nat.{add_assoc, zero-add}
 use native.Mathlib.Omega.{arith}
 use lib.ListN.{length, drop, length-append}
 use lib.Seq.{drop-append-le, drop-length}
-use Rattle.std.specs.Prelude.{Option, None, Some, Result, Ok, Err}
+use Rattle.std.specs.Prelude.{Some, Result, Ok, Err}
 use Rattle.std.specs.Result.{IsErrAnd}
-use Rattle.page.specs.Page.{page_size, held_count, Printed}
-use Rattle.page.proofs.Printed.{after_fits, after_none, printed_both}
+use Rattle.page.specs.Page.{page_size, PageText, held_count, whole_text, Printed}
+use Rattle.page.proofs.Printed.{after_fits, after_none, printed_both, whole_count}
 use Rattle.report.specs.Made.{Lines, MarksPut, LastPut, OnPage, Begun, Bounded, RoomMade, Reported}
 use Rattle.transfer.specs.declared.Failure.{Failure}
 use Rattle.report.specs.declared.part.Output.{Output}
@@ -20,7 +20,7 @@ use Rattle.report.specs.declared.whole.Stop.TheVariants.{Unread as Stopped}
 use Rattle.report.specs.Report.{most_marks, most_line, count_text, report_from, report_text}
 use Rattle.report.proofs.Short.{count_short}
 
-pub record State (logs total handed : ℕ) (page : Option (List ℕ)) : Type 0 where
+pub record State (logs total handed : ℕ) (page : PageText) : Type 0 where
   pub begun : Begun logs total handed page
   -- a log has one byte at least, so many marks at most, and a line of so many bytes at most
   pub bytes : logs ≤ length begun.input
@@ -28,15 +28,15 @@ pub record State (logs total handed : ℕ) (page : Option (List ℕ)) : Type 0 w
   pub short : length begun.lines ≤ 22 * logs
 
 -- what was handed over and what is held is of that length
-pub state_bound : {logs total handed : ℕ} {page : Option (List ℕ)} → State logs total handed page → handed + held_count page ≤ 22 * logs
+pub state_bound : {logs total handed : ℕ} {page : PageText} → State logs total handed page → handed + held_count page ≤ 22 * logs
 state_bound s = omega (arith, s.begun.text.all, s.short)
 
-pub state_as : {logs total handed handed' : ℕ} {page page' : Option (List ℕ)} → State logs total handed page → handed' ≡ handed → page' ≡ page → State logs total handed' page'
+pub state_as : {logs total handed handed' : ℕ} {page page' : PageText} → State logs total handed page → handed' ≡ handed → page' ≡ page → State logs total handed' page'
 state_as s e f = rw (e, f) s
 
 -- ---- the first lines
 
-pub state_none : State 0 0 0 (Some [])
+pub state_none : State 0 0 0 (Ok [])
 state_none = record {
   begun = record {
     input = [];
@@ -51,7 +51,7 @@ state_none = record {
 
 -- ---- a page is handed over
 
-pub state_passed : (logs total handed : ℕ) (page : Option (List ℕ)) → State logs total handed page → State logs total (handed + held_count page) (Some [])
+pub state_passed : (logs total handed : ℕ) (page : PageText) → State logs total handed page → State logs total (handed + held_count page) (Ok [])
 state_passed logs total handed page s =
     let lines = s.begun.lines in
     let all = s.begun.text.all in
@@ -80,14 +80,14 @@ state_roomy logs total o o' s room =
 -- ---- one text more
 
 module _ (lines text : List ℕ) (handed : ℕ) where
-  held_more : (page page' : Option (List ℕ)) → held_count page + length text ≤ page_size → Printed text page page' → held_count page' ≡ held_count page + length text
-  held_more None page' room put = absurd (omega arith)
-  held_more (Some held) page' room put = ap held_count (put ∙ after_fits held text (omega arith)) ∙ length-append held text
+  held_more : (page page' : PageText) → held_count page + length text ≤ page_size → Printed text page page' → held_count page' ≡ held_count page + length text
+  held_more (Err held) page' room put = absurd (omega arith)
+  held_more (Ok held) page' room put = whole_count page' (held ++ text) (put ∙ after_fits held text (omega arith)) ∙ length-append held text
 
-  page_more : (page page' : Option (List ℕ)) → held_count page + length text ≤ page_size → OnPage lines handed page → Printed text page page' → OnPage (lines ++ text) handed page'
+  page_more : (page page' : PageText) → held_count page + length text ≤ page_size → OnPage lines handed page → Printed text page page' → OnPage (lines ++ text) handed page'
   page_more page page' room on put =
       let behind = drop-append-le handed lines text (omega (arith, on.all)) in
-      record { all = omega (arith, on.all, held_more page page' room put, length-append lines text); put = rw behind (printed_both _ _ _ on.put put) }
+      record { all = omega (arith, on.all, held_more page page' room put, length-append lines text); put = rw behind (printed_both _ _ (Ok []) page page' on.put put) }
 
 -- ---- one log more
 
@@ -100,7 +100,7 @@ lines_more logs total total' total'' input lines next line first second more res
     ∙ ap (λ (l : List ℕ). lines ++ l) (second more rest)
     ∙ sym (append_assoc lines line (report_from more total'' rest))
 
-module _ (logs total handed : ℕ) (page page' : Option (List ℕ)) (s : State logs total handed page) (room : held_count page + most_line ≤ page_size) where
+module _ (logs total handed : ℕ) (page page' : PageText) (s : State logs total handed page) (room : held_count page + most_line ≤ page_size) where
   pub state_more : (total' : ℕ) → MarksPut total page page' total' → State (logs + 1) total' handed page'
   state_more total' m =
       let b = s.begun in

@@ -11,7 +11,7 @@ use lib.Seq.{take_at, drop_at}
 use Rattle.answer.specs.Answer.{Answer, delivered, refused}
 use Rattle.answer_text.specs.Refusal.{refusal_text}
 use Rattle.sense_log.specs.Pair.{pair_at}
-use Rattle.page.specs.Page.{Printed}
+use Rattle.page.specs.Page.{PageText, Printed}
 use Rattle.report.specs.Made.{LogPut, Lines, LastPut, NextPut}
 use Rattle.report.specs.Report.{heading_length, answer_of, marks_of, count_text, cut_text, log_text, groups_at, length_at, log_at, report_from}
 use Rattle.std.specs.Prelude.{Option, None, Some, Ok}
@@ -67,7 +67,7 @@ module _ (heading log : List ℕ) (whole : length heading ≡ heading_length) (a
       ∙ next_log [] more total
       ∙ ap (λ (a : Answer). log_text a (marks_of groups log) (report_from more (total + marks_of groups log) [])) is
 
-  pub log_put : (total : ℕ) (page page' : Option (List ℕ)) (r : Option ℕ) → LogPut groups log total page page' r → NextPut total page page' (Ok r)
+  pub log_put : (total : ℕ) (page page' : PageText) (r : Option ℕ) → LogPut groups log total page page' r → NextPut total page page' (Ok r)
   log_put total page page' (Some total') put = record {
     next = heading ++ log;
     some = omega (arith, length-append heading log);
@@ -85,7 +85,7 @@ module _ (heading log : List ℕ) (whole : length heading ≡ heading_length) (a
     put = put.3;
   }
 
-module _ (total : ℕ) (page page' : Option (List ℕ)) where
+module _ (total : ℕ) (page page' : PageText) where
   -- nothing is left
   total_last : (more : ℕ) → report_from (suc more) total [] ≡ count_text total
   unfolding report_from

@@ -4,7 +4,7 @@
 use Rattle.std.specs.Prelude.{ℕ, suc, ◌+◌, ◌^◌, ◌≤◌, ◌<◌, ◌≡◌, Bool, true, false, cond, List, [], ◌++◌, ◌⊎◌, eqb, ltb, length, drop, Option, None, Some, Result, Ok, Err}
 use Rattle.answer.specs.Answer.{delivered, refused}
 use Rattle.answer_text.specs.Refusal.{refusal_text}
-use Rattle.page.specs.Page.{page_size, held_count, Printed}
+use Rattle.page.specs.Page.{page_size, PageText, held_count, Printed}
 use Rattle.streams.specs.Ended.{is_whole, ended_behind}
 use Rattle.streams.specs.Message.{unwritten_text}
 use Rattle.transfer.specs.declared.Failure.{Failure}
@@ -19,7 +19,7 @@ use Rattle.report.specs.declared.whole.Stop.TheVariants.{Unread as Stopped, TooM
 
 -- The line of a log that is put behind logs with so many marks: its own marks, which join the total; or its refusal, and that is the last
 -- line.
-abbrev pub LogPut : ℕ → List ℕ → ℕ → Option (List ℕ) → Option (List ℕ) → Option ℕ → Type 0
+abbrev pub LogPut : ℕ → List ℕ → ℕ → PageText → PageText → Option ℕ → Type 0
 LogPut groups log total page page' (Some total') =
     ((figures : List ℕ) × (answer_of groups log ≡ delivered figures)) × (total' ≡ total + marks_of groups log) × Printed (count_text (marks_of groups log)) page page'
 LogPut groups log total page page' None =
@@ -48,7 +48,7 @@ Lines logs total input lines total' =
     (more : ℕ) (rest : List ℕ) → report_from (logs + more) total (input ++ rest) ≡ lines ++ report_from more total' rest
 
 -- the line of what came next
-pub record MarksPut (total : ℕ) (page page' : Option (List ℕ)) (total' : ℕ) : Type 0 where
+pub record MarksPut (total : ℕ) (page page' : PageText) (total' : ℕ) : Type 0 where
   pub next : List ℕ
   pub some : 0 < length next
   pub count : ℕ
@@ -58,25 +58,25 @@ pub record MarksPut (total : ℕ) (page page' : Option (List ℕ)) (total' : ℕ
   pub put : Printed (count_text count) page page'
 
 -- and of the last that came
-pub record LastPut (total : ℕ) (page page' : Option (List ℕ)) : Type 0 where
+pub record LastPut (total : ℕ) (page page' : PageText) : Type 0 where
   pub next : List ℕ
   pub line : List ℕ
   pub short : length line ≤ most_line
   pub last : (more : ℕ) → report_from (suc more) total next ≡ line
   pub put : Printed line page page'
 
-abbrev pub NextPut : ℕ → Option (List ℕ) → Option (List ℕ) → Result (Option ℕ) Failure → Type 0
+abbrev pub NextPut : ℕ → PageText → PageText → Result (Option ℕ) Failure → Type 0
 NextPut total page page' (Ok (Some total')) = MarksPut total page page' total'
 NextPut total page page' (Ok None) = LastPut total page page'
 NextPut total page page' (Err failure) = page' ≡ page
 
 -- a text, of which so many bytes were handed over, and the page holds the others
-pub record OnPage (text : List ℕ) (handed : ℕ) (page : Option (List ℕ)) : Type 0 where
+pub record OnPage (text : List ℕ) (handed : ℕ) (page : PageText) : Type 0 where
   pub all : handed + held_count page ≡ length text
-  pub put : Printed (drop handed text) (Some []) page
+  pub put : Printed (drop handed text) (Ok []) page
 
 -- the lines of the first logs of an input
-pub record Begun (logs total handed : ℕ) (page : Option (List ℕ)) : Type 0 where
+pub record Begun (logs total handed : ℕ) (page : PageText) : Type 0 where
   pub input : List ℕ
   pub lines : List ℕ
   pub are : Lines logs 0 input lines total
@@ -95,13 +95,13 @@ abbrev pub HandedOver : Output → Output → Result (Unit {0}) Unwritten → Ty
 HandedOver o o' (Ok done) = (o'.handed ≡ o.handed + held_count o.page) × (o'.page ≡ o.page)
 HandedOver o o' (Err unwritten) =
     (o'.handed ≡ o.handed)
-    × ((sent : Result ℕ Failure) × (is_whole sent (held_count o.page) ≡ false) × Printed (unwritten_text (ended_behind o.handed sent) (o.handed + held_count o.page)) (Some []) o'.page)
+    × ((sent : Result ℕ Failure) × (is_whole sent (held_count o.page) ≡ false) × Printed (unwritten_text (ended_behind o.handed sent) (o.handed + held_count o.page)) (Ok []) o'.page)
 
 -- There is room for a line on the page: as there was, or since all that it held was handed over; or a part could not be written, and that
 -- was told.
 abbrev pub RoomMade : Output → Output → Result (Unit {0}) Unwritten → Type 0
 RoomMade o o' (Ok done) =
-    (held_count o'.page + most_line ≤ page_size) × (((o'.handed ≡ o.handed) × (o'.page ≡ o.page)) ⊎ ((o'.handed ≡ o.handed + held_count o.page) × (o'.page ≡ Some [])))
+    (held_count o'.page + most_line ≤ page_size) × (((o'.handed ≡ o.handed) × (o'.page ≡ o.page)) ⊎ ((o'.handed ≡ o.handed + held_count o.page) × (o'.page ≡ Ok [])))
 RoomMade o o' (Err unwritten) = HandedOver o o' (Err unwritten)
 
 -- How a report ends: it is made; a read failed, or there are too many logs, behind the lines of those before; or a part could not be

@@ -1,5 +1,5 @@
 // A part of the report, handed over: all of the program's output goes through `hand_part`, which takes only what is due.
-ghost use Rattle.std.specs.Prelude.{[], ◌≡◌, Some};
+ghost use Rattle.std.specs.Prelude.{[], ◌≡◌, Ok};
 ghost use Rattle.report.specs.Made.{Due, Bounded, HandedOver};
 
 use page::Page;
@@ -18,7 +18,7 @@ pub(crate) struct Unwritten;
 impl Output {
     // An output of which nothing is made.
     pub(crate) fn new() -> Output
-        ensures { (result.page ≡ Some []) × (result.handed ≡ 0) }
+        ensures { (result.page ≡ Ok []) × (result.handed ≡ 0) }
     {
         Output {
             page: Page::new(),

@@ -1,5 +1,5 @@
 // The report of all logs of standard input.
-ghost use Rattle.std.specs.Prelude.{[], ◌≡◌, Some};
+ghost use Rattle.std.specs.Prelude.{[], ◌≡◌, Ok};
 ghost use Rattle.report.specs.Made.{Due, Bounded, RoomMade, Reported};
 ghost use Rattle.report.specs.declared.whole.Stop.TheVariants.{Unread, Told};
 
@@ -59,7 +59,7 @@ pub(crate) fn make_report(
     log: &mut [u8; MOST_BYTES],
     maps: &mut [u16; MAPS],
 ) -> Result<(), Stop>
-    requires { (output.old.page ≡ Some []) × (output.old.handed ≡ 0) }
+    requires { (output.old.page ≡ Ok []) × (output.old.handed ≡ 0) }
     ensures { Reported output.new result }
 {
     let mut total: u64 = 0;
