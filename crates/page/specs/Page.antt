@@ -46,7 +46,7 @@ held_count (Err text) = page_size + 1
 abbrev pub Printed : List ℕ → PageText → PageText → Type 0
 Printed text page page' = whole_text page' ≡ text_after (whole_text page) text
 
--- A text that does not fit leaves what was held as it was. Of several texts, the first of which may fit, that does not hold.
+-- A text that does not fit leaves what was held as it was. This is said of one text: of several, the first may fit.
 abbrev pub Kept : List ℕ → PageText → PageText → Type 0
 Kept text page page' = page_size < held_count page + length text → kept_text page' ≡ kept_text page
 
