@@ -1,10 +1,11 @@
 // Copying a record: it is judged by one pass over its characters, a second pass stores its data in an array, and from there they are
 // written. Nothing is written before the answer is known, so that a refusal leaves the words.
-ghost use Rattle.std.specs.Prelude.{true, ◌≡◌, ◌≤◌, leb, length};
+ghost use Rattle.std.specs.Prelude.{true, ◌≡◌, ◌≤◌, leb, length, IfOk};
 ghost use Rattle.answer.specs.Answer.{output_after};
 ghost use Rattle.cyclic.specs.Constants.{most_data};
 ghost use Rattle.copy800.specs.Copy.{copy_space, copied_record, copy_answer};
 ghost use Rattle.record800.specs.Read.{space_for, length_suits};
+ghost use Rattle.scan800.specs.Told.{TrackIs};
 ghost use Rattle.copier800.specs.Told.{told_copied};
 ghost use Rattle.terms.specs.Call as Call;
 ghost use Rattle.terms.specs.Terms.{Terms};
@@ -43,6 +44,7 @@ fn copy_through<const SPACE: usize>(reading: &Reading, words: &mut [u16]) -> Res
     requires enough { length_suits (length reading.now.characters.now) ≡ true
         → space_for (length reading.now.characters.now) ≤ SPACE }
     ensures answer { told_copied result ≡ copy_answer reading.now.backward reading.now.characters.now (length words.old) }
+    ensures track { IfOk result (λ copied. TrackIs copied.figures) }
     ensures output { words.new
         ≡ output_after
         (told_copied result)
@@ -61,6 +63,7 @@ fn copy_through<const SPACE: usize>(reading: &Reading, words: &mut [u16]) -> Res
 // Copies a record, forward or backward: a backward reading has its characters last first. What is written is forward.
 pub fn copy_record(characters: &[u16], backward: bool, words: &mut [u16]) -> Result<Copied, Refusal>
     ensures answer { told_copied result ≡ copy_answer backward characters.now (length words.old) }
+    ensures track { IfOk result (λ copied. TrackIs copied.figures) }
     ensures output { words.new ≡ output_after (told_copied result) (copied_record backward characters.now) words.old }
     ensures terms { Terms (Call.copy backward characters.now) (told_copied result) words.old words.new }
 {

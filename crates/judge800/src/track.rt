@@ -1,5 +1,5 @@
 // The nine tracks, tried on the sums.
-ghost use Rattle.std.specs.Prelude.{cond, ◌&&◌, List, [], ◌∷◌, ◌++◌, ◌≡◌, ℕ, ◌*◌, ◌^◌, ◌<◌, eqb, length};
+ghost use Rattle.std.specs.Prelude.{cond, ◌&&◌, List, [], ◌∷◌, ◌++◌, ◌≡◌, ℕ, ◌*◌, ◌^◌, ◌<◌, eqb, length, IfOk};
 ghost use Rattle.indexed.specs.List.{below, keep};
 ghost use Rattle.register.specs.Shift.{shifts};
 ghost use Rattle.register.specs.Xor.{◌⊕◌};
@@ -55,8 +55,9 @@ fn joined(found: Result<usize, Unlocated>, track: usize) -> Result<usize, Unloca
 // parity of the number of wrong ones.
 pub fn located(check: u16, pattern: u16, longitudinal: u16, odd: u16) -> Result<usize, Unlocated>
     requires { (pattern < 512) × (odd < 2) }
-    ensures { result
+    ensures found { result
         ≡ one_found (keep (λ j. eqb (check ⊕ shifts 9 feedback j pattern) offset && eqb longitudinal (odd * 2 ^ j)) (below tracks)) }
+    ensures within { IfOk result (λ track. track < tracks) }
 {
     let mut found = Err(Unlocated::NoRecord);
     let mut shifted = pattern;

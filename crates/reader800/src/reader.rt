@@ -1,11 +1,11 @@
 // Reading a record: it is judged by one pass over its characters, and a second pass stores the data.
-ghost use Rattle.std.specs.Prelude.{◌++◌, ◌≡◌, ◌-◌, ◌<◌, ◌≤◌, length, drop};
+ghost use Rattle.std.specs.Prelude.{◌++◌, ◌≡◌, ◌-◌, ◌<◌, ◌≤◌, length, drop, IfOk};
 ghost use Rattle.register.specs.Parity.{parity};
 ghost use Rattle.register.specs.Xor.{◌⊕◌};
 ghost use Rattle.answer.specs.Answer.{output_after};
 ghost use Rattle.record800.specs.Read.{picture, read_data, read_answer};
 ghost use Rattle.reader800.specs.Stored.{stored_data};
-ghost use Rattle.scan800.specs.Told.{told_read, track_told};
+ghost use Rattle.scan800.specs.Told.{told_read, track_told, TrackIs};
 ghost use Rattle.terms.specs.Call as Call;
 ghost use Rattle.terms.specs.Reading.{at800};
 ghost use Rattle.terms.specs.Terms.{Terms};
@@ -46,6 +46,7 @@ pub fn read_record(
     output: &mut [u8],
 ) -> Result<Figures, Refusal>
     ensures answer { told_read result ≡ read_answer backward characters.now (length output.old) }
+    ensures track { IfOk result TrackIs }
     ensures output { output.new ≡ output_after (told_read result) (read_data backward characters.now) output.old }
     ensures terms { Terms (Call.read (at800 backward characters.now)) (told_read result) output.old output.new }
 {

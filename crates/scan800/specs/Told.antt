@@ -1,6 +1,6 @@
 -- What the code tells of a reading, and what it has gathered of it.
 -- Assumes nothing.
-use Rattle.std.specs.Prelude.{ℕ, List, Option, Result, ◌≡◌, unwrap_or}
+use Rattle.std.specs.Prelude.{ℕ, ◌<◌, List, Option, Result, ◌≡◌, unwrap_or, IfSome}
 use Rattle.register.specs.Shift.{shifts}
 use Rattle.answer.specs.Answer.{Answer, told}
 use Rattle.answer.specs.declared.Refusal.{Refusal}
@@ -12,6 +12,10 @@ use Rattle.scan800.specs.declared.gather.Gathered.{Gathered}
 -- the corrected track, or 9 if there is none
 abbrev pub track_told : Option ℕ → ℕ
 track_told track = unwrap_or track tracks
+
+-- the track that a delivery tells is one of the nine: where nothing differs, none is told, and not 9
+abbrev pub TrackIs : Figures → Type 0
+TrackIs figures = IfSome figures.track (λ track. track < tracks)
 
 -- the figures of a delivery: n, the corrected track, how many characters differ, and how many in each track
 abbrev pub figures_told : Figures → List ℕ

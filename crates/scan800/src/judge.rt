@@ -1,7 +1,7 @@
 // Judging a record: each check in document 01's order, and which record fits by the sums of its characters.
-ghost use Rattle.std.specs.Prelude.{◌≡◌, ◌-◌, length};
+ghost use Rattle.std.specs.Prelude.{◌≡◌, ◌-◌, length, IfOk};
 ghost use Rattle.record800.specs.Read.{picture, judged_answer, space_for, length_suits, answer_if};
-ghost use Rattle.scan800.specs.Told.{told_read};
+ghost use Rattle.scan800.specs.Told.{told_read, TrackIs};
 
 use crate::gather::gather;
 use crate::{Figures, Passed, Reading};
@@ -25,8 +25,9 @@ fn length_suits(count: usize) -> bool
 
 // Judges a record whose length and characters suit: decides by the sums which record fits.
 fn judge_sums(passed: &Passed) -> Result<Figures, Refusal>
-    ensures { let reading = passed.now.reading in told_read result
+    ensures answer { let reading = passed.now.reading in told_read result
         ≡ judged_answer (length reading.characters.now - 2) (picture reading.backward reading.characters.now) }
+    ensures track { IfOk result TrackIs }
 {
     let length = data_length(passed.reading.characters.len());
     let gathered = gather(passed);
@@ -52,7 +53,8 @@ fn judge_sums(passed: &Passed) -> Result<Figures, Refusal>
 
 // Judges a record: whether the output has space enough, each call says of its own.
 pub fn judge_record(reading: &Reading, enough: bool) -> Result<Figures, Refusal>
-    ensures { told_read result ≡ answer_if reading.now.backward reading.now.characters.now enough }
+    ensures answer { told_read result ≡ answer_if reading.now.backward reading.now.characters.now enough }
+    ensures track { IfOk result TrackIs }
 {
     if !length_suits(reading.characters.len()) {
         return Err(Reason::Length.into());

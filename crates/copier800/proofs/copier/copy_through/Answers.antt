@@ -24,26 +24,27 @@ returns-in_err-figures g c =
     let e = err_from_is_err_and _ c.from_residual.ensures.1 in
     let tells = ap told_copied e.1 ∙ ap told_refusal e.2 in
     let refused = sym (ap told_read c.in_err-figures.was)
-    ∙ c.judge_record.ensures
+    ∙ c.judge_record.ensures.answer
     ∙ ap (answer_if reading.backward reading.characters.now) c.has_space-enough.ensures in
     record {
       answer = tells ∙ ap (copied _) refused;
+      track = rw e.1 tt;
       output = ap (λ (a : Answer). output_after a (copied_record reading.backward reading.characters.now) words) (sym tells);
     }
 
 pub invariant_of-passed : goal.invariant_of-passed
 invariant_of-passed g c =
-    let is = told _ _ _ _ _ _ (sym (ap told_read c.in_ok-figures.was) ∙ c.judge_record.ensures) in
+    let is = told _ _ _ _ _ _ (sym (ap told_read c.in_ok-figures.was) ∙ c.judge_record.ensures.answer) in
     record { lengths = is.passes.lengths; no_stray = is.passes.no_stray }
 
 pub store-requires : goal.store-requires
 store-requires g c =
-    let is = told _ _ _ _ _ _ (sym (ap told_read c.in_ok-figures.was) ∙ c.judge_record.ensures) in
+    let is = told _ _ _ _ _ _ (sym (ap told_read c.in_ok-figures.was) ∙ c.judge_record.ensures.answer) in
     (is.is_track, omega (arith, c.requires.enough is.passes.lengths, length-replicate {A = ℕ} g.row.SPACE 0))
 
 pub shared_whole_as_front-write : goal.shared_whole_as_front-write
 shared_whole_as_front-write g c =
-    let is = told _ _ _ _ _ _ (sym (ap told_read c.in_ok-figures.was) ∙ c.judge_record.ensures) in
+    let is = told _ _ _ _ _ _ (sym (ap told_read c.in_ok-figures.was) ∙ c.judge_record.ensures.answer) in
     (omega (arith, is.all_data, c.requires.enough is.passes.lengths), omega (arith, c.requires.small))
 
 pub returns-in_err-groups : goal.returns-in_err-groups
@@ -51,7 +52,7 @@ returns-in_err-groups g c =
     let reading = c.args.reading.now in
     let words = c.args.words.now in
     let is = sym (ap told_read c.in_ok-figures.was)
-    ∙ c.judge_record.ensures
+    ∙ c.judge_record.ensures.answer
     ∙ ap (answer_if reading.backward reading.characters.now) c.has_space-enough.ensures in
     let size = c.in_ok-figures.figures.length in
     let part = ap (take size) c.store.ensures ∙ part_is reading.backward reading.characters.now words _ _ _ is _ in
@@ -60,6 +61,7 @@ returns-in_err-groups g c =
     let answers = ap told_copied e.1 ∙ ap told_refusal e.2 ∙ sym (ap (λ w. retold tells (told_written w)) c.in_err-groups.was) in
     record {
       answer = answer_copied reading.backward reading.characters.now words _ _ _ is _ part _ _ c.write.ensures.answer answers;
+      track = rw e.1 tt;
       output = output_copied reading.backward reading.characters.now words _ _ _ is _ part _ _ c.write.ensures.answer answers _
           c.write.ensures.output;
     }
@@ -69,7 +71,7 @@ returns g c =
     let reading = c.args.reading.now in
     let words = c.args.words.now in
     let is = sym (ap told_read c.in_ok-figures.was)
-    ∙ c.judge_record.ensures
+    ∙ c.judge_record.ensures.answer
     ∙ ap (answer_if reading.backward reading.characters.now) c.has_space-enough.ensures in
     let size = c.in_ok-figures.figures.length in
     let part = ap (take size) c.store.ensures ∙ part_is reading.backward reading.characters.now words _ _ _ is _ in
@@ -77,6 +79,7 @@ returns g c =
     let answers = sym (ap (λ w. retold tells (told_written w)) c.in_ok-groups.was) in
     record {
       answer = answer_copied reading.backward reading.characters.now words _ _ _ is _ part _ _ c.write.ensures.answer answers;
+      track = rw c.in_ok-figures.was at c.judge_record.ensures.track;
       output = output_copied reading.backward reading.characters.now words _ _ _ is _ part _ _ c.write.ensures.answer answers _
           c.write.ensures.output;
     }

@@ -16,7 +16,7 @@ use Rattle.register.specs.Xor.{◌⊕◌}
 use Rattle.register.proofs.Shift.{shifts_lt}
 use Rattle.cyclic.specs.Constants.{feedback, offset, times_x}
 use Rattle.judge800.specs.Told.{one_found}
-use Rattle.judge800.proofs.Tracks.{kept_next, kept_le}
+use Rattle.judge800.proofs.Tracks.{kept_next, kept_le, found_within}
 use Rattle.judge800.proofs.track.located.Invariants.{holdsAt}
 use Rattle.judge800.proofs.track.located.Goals.{then-agree, else-agree}
 use Rattle.judge800.proofs.track.located.Goals as goal
@@ -58,3 +58,10 @@ loop-j-preserved c =
       ],
       c.shift-shifted.ensures ∙ ap times_x at.invariant.1 ∙ ap (λ (n : ℕ). shifts 9 feedback n args.pattern) (sym (add-one at.j)),
     )
+
+pub returns-clause-within : goal.returns-clause-within
+returns-clause-within c =
+    let args = c.args in
+    let at = c.loop-j in
+    let all : at.j ≡ 9 = omega arith in
+    rw (← all) (found_within (holdsAt args.check args.pattern args.longitudinal args.odd) at.j at.found at.invariant.0)

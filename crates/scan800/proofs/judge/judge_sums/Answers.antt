@@ -14,15 +14,15 @@ use Rattle.scan800.specs.Told.{told_read}
 use Rattle.std.proofs.lemmas.Result.{err_from_is_err_and}
 use Rattle.scan800.proofs.judge.judge_sums.Goals as goal
 
-pub returns-then-agree : goal.returns-then-agree
-returns-then-agree c =
+pub returns-then-agree-clause-answer : goal.returns-then-agree-clause-answer
+returns-then-agree-clause-answer c =
     let sums = c.gather-gathered.ensures in
     ap (λ (n : ℕ). delivered (figures_of n 9 0)) c.data_length-length.ensures
     ∙ sym (clean_answer _ _ (sym sums.3 ∙ c.if-gathered-eq0.true) true
     (sym c.if-agree.true ∙ c.agree.ensures ∙ ap₂ (λ (x y : ℕ). eqb x 471 && eqb y 0) sums.0 sums.2))
 
-pub returns-then-gathered-eq0 : goal.returns-then-gathered-eq0
-returns-then-gathered-eq0 c =
+pub returns-then-gathered-eq0-clause-answer : goal.returns-then-gathered-eq0-clause-answer
+returns-then-gathered-eq0-clause-answer c =
     let sums = c.gather-gathered.ensures in
     ap told_refusal c.into.ensures
     ∙ sym (clean_answer _ _ (sym sums.3 ∙ c.if-gathered-eq0.true) false
@@ -36,16 +36,16 @@ located-requires c =
     let sums = c.gather-gathered.ensures in
     (rw (c.unshifted-pattern.ensures ∙ pattern_back _ _ _ sums.1) (pattern_lt _ _), omega arith)
 
-pub returns-in_err-track : goal.returns-in_err-track
-returns-in_err-track c =
+pub returns-in_err-track-clause-answer : goal.returns-in_err-track-clause-answer
+returns-in_err-track-clause-answer c =
     let sums = c.gather-gathered in
-    let found = found_answer _ _ (λ e. c.if-gathered-eq0.false (sums.ensures.3 ∙ e)) _ (found_hold _ _ sums.result _ _ sums.ensures c.unshifted-pattern.ensures c.located.ensures) in
+    let found = found_answer _ _ (λ e. c.if-gathered-eq0.false (sums.ensures.3 ∙ e)) _ (found_hold _ _ sums.result _ _ sums.ensures c.unshifted-pattern.ensures c.located.ensures.found) in
     let refusal = err_from_is_err_and _ c.from_residual.ensures.1 in
     ap told_read refusal.1 ∙ ap told_refusal refusal.2 ∙ sym (found ∙ ap (told_found _ _) c.in_err-track.was)
 
-pub returns : goal.returns
-returns c =
+pub returns-clause-answer : goal.returns-clause-answer
+returns-clause-answer c =
     let sums = c.gather-gathered in
-    let found = found_answer _ _ (λ e. c.if-gathered-eq0.false (sums.ensures.3 ∙ e)) _ (found_hold _ _ sums.result _ _ sums.ensures c.unshifted-pattern.ensures c.located.ensures) in
+    let found = found_answer _ _ (λ e. c.if-gathered-eq0.false (sums.ensures.3 ∙ e)) _ (found_hold _ _ sums.result _ _ sums.ensures c.unshifted-pattern.ensures c.located.ensures.found) in
     ap₂ (λ (n w : ℕ). delivered (figures_of n c.in_ok-track.track w)) c.data_length-length.ensures sums.ensures.3
     ∙ sym (found ∙ ap (told_found _ _) c.in_ok-track.was)
