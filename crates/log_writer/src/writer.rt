@@ -26,7 +26,9 @@ fn log_within<const GROUPS: usize, const BYTES: usize>(
 {
     let mut body = [0u8; BYTES];
     let mut changed = [0u16; GROUPS];
-    judge_record(reading, &mut body, &mut changed)?;
+    let read = judge_record(reading, &mut body, &mut changed);
+    // the log is stored once all of the reading is known to fit
+    read?;
     Ok(store_log(&changed[..reading.maps.len()], log))
 }
 
