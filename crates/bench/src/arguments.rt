@@ -1,5 +1,5 @@
 // The words of the command line, and what they ask for.
-ghost use Rattle.std.specs.Prelude.{◌≡◌};
+ghost use Rattle.std.specs.Prelude.{◌≡◌, ◌≤◌, length};
 ghost use Rattle.bench.specs.Arguments.{request_of};
 
 use std::env::FillError;
@@ -73,7 +73,9 @@ fn request_of(
 
 // The bytes of a word that is to be known. A word longer than every word that is known does not fit, and is none of them; nor is one
 // that is missing.
-fn word_at<'a>(rt: &HostRuntime, place: usize, space: &'a mut [u8; 16]) -> &'a [u8] {
+fn word_at<'a>(rt: &HostRuntime, place: usize, space: &'a mut [u8; 16]) -> &'a [u8]
+    ensures { length result.now ≤ 16 }
+{
     match rt.arg(place, space) {
         Ok(size) => &space[..size],
         Err(_) => &[],

@@ -31,13 +31,19 @@ abbrev pub heading_came : Result ℕ Failure → Result Bool Missing
 heading_came (Ok count) = cond (eqb count heading_length) (Ok true) (cond (eqb count 0) (Ok false) (Err Cut))
 heading_came (Err failure) = Err (Unread failure)
 
-abbrev pub log_came : ℕ → Result ℕ Failure → Result (Unit {0}) Missing
-log_came length (Ok count) = cond (ltb count length) (Err Cut) (Ok tt)
-log_came length (Err failure) = Err (Unread failure)
+abbrev pub behind_heading : Heading → Result ℕ Failure → Result Heading Missing
+behind_heading h (Ok count) = cond (ltb count h.length) (Err Cut) (Ok h)
+behind_heading h (Err failure) = Err (Unread failure)
 
--- What came next: a heading, and the log behind it, at the front of the space; nothing; bytes that are cut; or a read failed.
+-- What came behind a heading: the log that it tells of, at the front of the space; fewer bytes than it tells of; or a read failed.
+abbrev pub CameBehind : List ℕ → List ℕ → Result Heading Missing → Type 0
+CameBehind heading log (Ok h) = (h.groups ≡ groups_at heading) × (h.length ≡ length_at heading) × (h.length ≤ length log)
+CameBehind heading log (Err Cut) = (part : List ℕ) × (length part < length_at heading)
+CameBehind heading log (Err (Unread failure)) = Unit {0}
+
+-- What came next: a heading, and the log behind it; nothing; bytes that are cut; or a read failed.
 abbrev pub Came : List ℕ → Result (Option Heading) Missing → Type 0
-Came log (Ok (Some h)) = (heading : List ℕ) × (length heading ≡ heading_length) × (h.groups ≡ groups_at heading) × (h.length ≡ length_at heading) × (h.length ≤ length log)
+Came log (Ok (Some h)) = (heading : List ℕ) × (length heading ≡ heading_length) × CameBehind heading log (Ok h)
 Came log (Ok None) = Unit {0}
 Came log (Err Cut) = (part : List ℕ) × (0 < length part) × (length part < heading_length + length_at part)
 Came log (Err (Unread failure)) = Unit {0}

@@ -1,6 +1,6 @@
 // The next log of standard input, which stands behind its group count and its length, two bytes each, low one first.
 ghost use Rattle.std.specs.Prelude.{◌≡◌, ◌≤◌};
-ghost use Rattle.report.specs.Made.{heading_came, log_came, Came};
+ghost use Rattle.report.specs.Made.{heading_came, behind_heading, CameBehind, Came};
 ghost use Rattle.report.specs.Report.{most_bytes, groups_at, length_at};
 ghost use Rattle.report.specs.declared.input.Missing.TheVariants.{Unread};
 
@@ -60,14 +60,27 @@ fn heading_came(ended: Result<usize, Failure>) -> Result<bool, Missing>
     }
 }
 
-// Whether so many bytes of a log came, by how reading it ended.
-fn log_came(length: usize, ended: Result<usize, Failure>) -> Result<(), Missing>
-    ensures { result ≡ log_came length ended }
+// What came behind a heading, by how reading the log ended: all that it tells of, or fewer bytes.
+fn behind_heading(heading: Heading, ended: Result<usize, Failure>) -> Result<Heading, Missing>
+    ensures { result ≡ behind_heading heading ended }
 {
-    if ended? < length {
+    if ended? < heading.length {
         return Err(Missing::Cut);
     }
-    Ok(())
+    Ok(heading)
+}
+
+// Reads the log behind a heading to the front of the space, and tells what the heading tells.
+fn read_behind(
+    rt: &HostRuntime,
+    bytes: &[u8; HEADING],
+    log: &mut [u8; MOST_BYTES],
+) -> Result<Heading, Missing>
+    ensures { CameBehind bytes.now log.new result }
+{
+    let heading = Heading::of(bytes);
+    let ended = streams::read(&mut rt.stdin(), &mut log[..heading.length]);
+    behind_heading(heading, ended)
 }
 
 // Reads the next log to the front of the space, and tells its heading; none where nothing comes.
@@ -78,12 +91,10 @@ pub(crate) fn read_next(
     ensures { Came log.new result }
 {
     let mut bytes = [0u8; HEADING];
-    let read = streams::read(&mut rt.stdin(), &mut bytes);
-    if !heading_came(read)? {
+    let ended = streams::read(&mut rt.stdin(), &mut bytes);
+    if !heading_came(ended)? {
         return Ok(None);
     }
-    let heading = Heading::of(&bytes);
-    let read_behind = streams::read(&mut rt.stdin(), &mut log[..heading.length]);
-    log_came(heading.length, read_behind)?;
+    let heading = read_behind(rt, &bytes, log)?;
     Ok(Some(heading))
 }

@@ -17,3 +17,9 @@ failed_by failure = cond (eqb failure.number interruption) None (Some (Err failu
 abbrev pub moved_by : Result ℕ Error → Option (Result ℕ Failure)
 moved_by (Ok count) = Some (Ok count)
 moved_by (Err error) = failed_by (failure_of error)
+
+-- how a call ended that was made again as long as a signal came first: as it settled, or, where a signal came first every time, in that
+-- error
+abbrev pub ended_by : Option (Result ℕ Failure) → Result ℕ Failure
+ended_by (Some settled) = settled
+ended_by None = Err (record { number = interruption })

@@ -5,7 +5,7 @@ ghost use Rattle.std.specs.Prelude.{◌≡◌};
 ghost use Rattle.std.specs.Io.{ReadsAtMost, WritesAtMost};
 ghost use Rattle.std.specs.Io.KnownBytes.{ReadConsumes, WriteAppends};
 ghost use Rattle.transfer.specs.Failure.{error_number, number_of};
-ghost use Rattle.transfer.specs.Came.{failure_of, moved_by};
+ghost use Rattle.transfer.specs.Came.{failure_of, moved_by, ended_by};
 
 use std::io;
 use std::io::{Read, Write};
@@ -58,19 +58,31 @@ fn came(answer: io::Result<usize>) -> Option<Result<usize, Failure>>
     }
 }
 
+// How a call ended that was made again as long as a signal came first: as it settled, or, where a signal came first every time, in that
+// error.
+pub fn end(last: Option<Result<usize, Failure>>) -> Result<usize, Failure>
+    ensures { result ≡ ended_by last }
+{
+    match last {
+        Some(settled) => settled,
+        None => Err(Failure {
+            number: INTERRUPTED,
+        }),
+    }
+}
+
 // One read into the space, made again where a signal came first.
 pub fn read_once<R: Read>(input: &mut R, space: &mut [u8]) -> Result<usize, Failure>
     ensures within { ReadsAtMost result space.new }
     ensures bytes { ReadConsumes (R.remaining input.old) (R.remaining input.new) result space.new }
 {
     'tries: for _ in 0..TRIES {
-        if let Some(settled) = came(input.read(space)) {
-            return settled;
+        let last = came(input.read(space));
+        if last.is_some() {
+            return end(last);
         }
     }
-    Err(Failure {
-        number: INTERRUPTED,
-    })
+    end(None)
 }
 
 // One write, made again where a signal came first.
@@ -81,11 +93,10 @@ pub fn write_once<W: Write>(to: &mut W, bytes: &[u8]) -> Result<usize, Failure>
     ensures bytes { WriteAppends (W.contents to.old) (W.contents to.new) result bytes.now }
 {
     'tries: for _ in 0..TRIES {
-        if let Some(settled) = came(to.write(bytes)) {
-            return settled;
+        let last = came(to.write(bytes));
+        if last.is_some() {
+            return end(last);
         }
     }
-    Err(Failure {
-        number: INTERRUPTED,
-    })
+    end(None)
 }
