@@ -1,7 +1,7 @@
 // The picture of a record: a row for each track, a column for each group or run of characters, in blocks of
 // at most 64 columns, in the forward order of the record. Where the record was delivered, each row ends with the changes of its track
 // in all of the record (document 02, request 2.7).
-ghost use Rattle.std.specs.Prelude.{◌++◌, ◌≡◌, ◌+◌, ◌*◌, ◌<◌, ◌≤◌, length, drop};
+ghost use Rattle.std.specs.Prelude.{◌++◌, ◌≡◌, ◌+◌, ◌-◌, ◌*◌, ◌<◌, ◌≤◌, min, length, drop};
 ghost use Rattle.rectangular.specs.Constants.{tracks};
 ghost use Rattle.bench.specs.Picture.{row_of, first_of, most_columns};
 
@@ -87,16 +87,31 @@ impl Picture<'_> {
         page.put(b"\n");
     }
 
+    // The last group or character that the columns in front of one show.
+    fn last_before(&self, column: usize) -> usize
+        requires { column ≤ self.now.columns }
+        ensures { result ≡ min (first_of self.now.column column) self.now.shown - 1 }
+    {
+        self.column.first(column).min(self.shown).saturating_sub(1)
+    }
+
     // What the columns of a block show, from the first group or character to the last.
     fn put_heading(&self, page: &mut Page, from: usize, count: usize)
         requires { from + count ≤ self.now.columns }
     {
-        let behind = self.column.first(from + count).min(self.shown);
         page.put(self.column.name());
         page.decimal(self.column.first(from) as u64);
         page.put(b" to ");
-        page.decimal(behind.saturating_sub(1) as u64);
+        page.decimal(self.last_before(from + count) as u64);
         page.put(b"\n");
+    }
+
+    // How many columns a block has that begins at a column.
+    fn block(&self, from: usize) -> usize
+        requires { from ≤ self.now.columns }
+        ensures { result ≡ min 64 (self.now.columns - from) }
+    {
+        (self.columns - from).min(BLOCK)
     }
 
     // Puts the blocks, one below the other.
@@ -104,7 +119,7 @@ impl Picture<'_> {
         page.put(b"picture\n");
         for block in 0..self.columns.div_ceil(BLOCK) {
             let from = BLOCK * block;
-            let count = (self.columns - from).min(BLOCK);
+            let count = self.block(from);
             self.put_heading(page, from, count);
             for track in 0..Code6250::TRACKS {
                 self.put_row(page, track, from, count);

@@ -110,9 +110,16 @@ fn show_delivered<R: Record>(page: &mut Page, reading: &R, bytes: &[u8], deliver
     page.put(b"\n");
     print::data(page, bytes);
     let mut right: Numbers = [0; Code6250::NUMBERS * GROUPS];
-    // a refusal leaves the numbers, and data that were delivered are not refused
-    let _ = R::write(bytes, &mut right);
+    write_again::<R>(bytes, &mut right);
     draw(page, reading, &right, None, Some(delivery.counts));
+}
+
+// Writes the record that was delivered, from its data.
+fn write_again<R: Record>(bytes: &[u8], right: &mut Numbers)
+    ensures { right.new ≡ output_after (R.answer_for (length bytes.now) (length right.old)) (R.record_of bytes.now) right.old }
+{
+    // a refusal leaves the numbers, and data that were delivered are not refused
+    let _ = R::write(bytes, right);
 }
 
 // A refusal: the answer, and the picture of what was read. One for a length or for space has none, since the
