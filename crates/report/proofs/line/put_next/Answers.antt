@@ -13,8 +13,8 @@ returns-in-Ok-Some c =
     let came = rw c.in-Ok-Some.field-0-is at c.in-Ok-Some.ensures in
     let space = c.read_next.new.log in
     let log = take c.in-Ok-Some.heading.length space in
-    log_put came.0 log came.1 (length-take-le _ space came.4 ∙ came.3) c.args.total c.args.page.now c.put_log.new.page c.put_log.result
-    (subst (λ (g : ℕ). LogPut g log c.args.total c.args.page.now c.put_log.new.page c.put_log.result) came.2 c.put_log.ensures)
+    log_put came.0 log came.1 (length-take-le _ space came.2.2 ∙ came.2.1) c.args.total c.args.page.now c.put_log.new.page c.put_log.result
+    (subst (λ (g : ℕ). LogPut g log c.args.total c.args.page.now c.put_log.new.page c.put_log.result) came.2.0 c.put_log.ensures)
 
 pub returns-in-Ok-None : goal.returns-in-Ok-None
 returns-in-Ok-None c = total_put _ _ _ c.put_count.ensures
