@@ -1,31 +1,27 @@
 -- What a search for stray bits has seen, and what it then knows.
 -- Assumes nothing.
 use mathlib.Core.Path.{◌≡◌, refl, sym, ap, ap₂, ◌∙◌}
-use mathlib.Core.Bool.{Bool, true, false, cond, ◌||◌}
-use Rattle.std.specs.Prelude.{is_some, Some, None}
+use mathlib.Core.Bool.{Bool, true, false, ◌||◌}
 use mathlib.Core.List.{List}
 use Prim.Native.Nat.{ℕ, ◌+◌, ◌-◌, ◌*◌, ◌<◌, ◌≤◌}
 use native.Mathlib.Nat.{mul_comm}
 use native.Mathlib.Omega.{arith}
-use borrow.Author.Tests.{lt-ltb, le-ltb, ltb-true, ltb-false}
+use borrow.Author.Tests.{lt-ltb, le-ltb, ltb-false}
 use lib.Dec.{ltb}
 use lib.ListN.{length, get_or, take, drop}
 use lib.Seq.{length-take-le}
 use Rattle.std.proofs.lemmas.List.{get_or-take, get_or-drop}
 use Rattle.std.proofs.Common.{length-drop}
-use Rattle.indexed.specs.List.{first_where, index_in}
-use Rattle.indexed.proofs.First.{first_before, first_passes}
-use Rattle.slices.specs.Above.{first_above}
 use Rattle.slices.specs.Turned.{turned_place}
 use Rattle.slices.specs.Union.{union_of}
-use Rattle.slices.proofs.Or.{below_union}
+use Rattle.slices.proofs.Or.{below_union, union_below}
 use Rattle.slices.proofs.Turned.{turned_lt}
 use Rattle.indexed.proofs.Below.{first_below_at, first_below_none}
 use Rattle.rectangular.specs.Constants.{numbers_per_group}
 use Rattle.record6250.specs.Picture.{group_lent, map_read}
 use Rattle.record6250.specs.Read.{read_numbers, read_map, stray_at, first_stray}
 use Rattle.record6250.specs.Tape.{numbers_at, stray_numbers}
-use Rattle.record6250.proofs.Tape.{get_or_numbers_at, none_stray}
+use Rattle.record6250.proofs.Tape.{get_or_numbers_at, number_below, none_stray}
 
 -- ---- one group
 
@@ -46,31 +42,26 @@ module _ (words : List ℕ) (at : ℕ) where
   no_stray_number none =
       none_stray (numbers_at words at) (λ k h. omega (arith, ltb-false 1023 (get_or (numbers_at words at) k 0) (above_at k h ∙ none k h)))
 
-  -- as it is seen of the slice of them
-  pub stray_slice : (numbers : List ℕ) → length numbers ≡ 9 → ((j : ℕ) → j < 9 → get_or numbers j 0 ≡ get_or words (at + j) 0)
-      → is_some (index_in (length numbers) (first_above 1023 numbers)) ≡ stray_numbers (numbers_at words at)
-  unfolding first_above
-  stray_slice numbers long are = by (ltb (first_where (λ v. ltb 1023 v) numbers) (length numbers)) refl
+  -- as it is seen of all bits of a slice of them
+  stray_slice : (numbers : List ℕ) → length numbers ≡ 9 → ((j : ℕ) → j < 9 → get_or numbers j 0 ≡ get_or words (at + j) 0)
+      → ltb 1023 (union_of numbers) ≡ stray_numbers (numbers_at words at)
+  stray_slice numbers long are = by (stray_numbers (numbers_at words at)) refl
     where
-      none : (j : ℕ) → j < 9 → j < first_where (λ v. ltb 1023 v) numbers → ltb 1023 (get_or words (at + j) 0) ≡ false
-      none j h before = ap (ltb 1023) (sym (are j h)) ∙ first_before (λ v. ltb 1023 v) numbers j before
+      few : union_of numbers < 1024 → stray_numbers (numbers_at words at) ≡ false
+      few small = no_stray_number (λ j b. le-ltb 1023 (get_or words (at + j) 0) (omega (arith, are j b, below_union numbers 1024 small j (omega arith))))
 
-      by : (b : Bool) → ltb (first_where (λ v. ltb 1023 v) numbers) (length numbers) ≡ b
-          → is_some (index_in (length numbers) (first_where (λ v. ltb 1023 v) numbers)) ≡ stray_numbers (numbers_at words at)
-      by true e =
-          let i : ℕ = first_where (λ v. ltb 1023 v) numbers in
-          let h : i < length numbers = ltb-true i (length numbers) e in
-          let passes : ltb 1023 (get_or words (at + i) 0) ≡ true = ap (ltb 1023) (sym (are i (omega arith))) ∙ first_passes (λ v. ltb 1023 v) numbers h in
-          ap (λ (b : Bool). is_some (cond b (Some i) None)) e
-          ∙ sym (stray_number i (omega arith) (λ j b. none j (omega arith) b) (ltb-true 1023 (get_or words (at + i) 0) passes))
+      by : (b : Bool) → stray_numbers (numbers_at words at) ≡ b → ltb 1023 (union_of numbers) ≡ stray_numbers (numbers_at words at)
+      by true e = by_test (ltb 1023 (union_of numbers)) refl
+        where
+          by_test : (b : Bool) → ltb 1023 (union_of numbers) ≡ b → ltb 1023 (union_of numbers) ≡ stray_numbers (numbers_at words at)
+          by_test true t = t ∙ sym e
+          by_test false t = t ∙ sym (few (omega (arith, ltb-false 1023 (union_of numbers) t)))
       by false e =
-          let i : ℕ = first_where (λ v. ltb 1023 v) numbers in
-          let h : length numbers ≤ i = ltb-false i (length numbers) e in
-          ap (λ (b : Bool). is_some (cond b (Some i) None)) e
-          ∙ sym (no_stray_number (λ j b. none j b (omega arith)))
+          le-ltb 1023 (union_of numbers)
+          (omega (arith, union_below numbers 10 (λ k h. let j : k < 9 = omega arith in omega (arith, are k j, get_or_numbers_at words at k j, number_below (numbers_at words at) e k j))))
+          ∙ sym e
 
-  pub stray_lent : at + 9 ≤ length words
-      → is_some (index_in (length (take (at + 9 - at) (drop at words))) (first_above 1023 (take (at + 9 - at) (drop at words)))) ≡ stray_numbers (numbers_at words at)
+  pub stray_lent : at + 9 ≤ length words → ltb 1023 (union_of (take (at + 9 - at) (drop at words))) ≡ stray_numbers (numbers_at words at)
   stray_lent within =
       stray_slice (take (at + 9 - at) (drop at words)) (length-take-le (at + 9 - at) (drop at words) (omega (arith, length-drop at words)) ∙ omega arith)
       (λ j h. get_or-take (at + 9 - at) (drop at words) j 0 (omega arith) ∙ get_or-drop at words j 0)

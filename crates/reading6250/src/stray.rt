@@ -7,7 +7,7 @@ ghost use Rattle.record6250.specs.Tape.{numbers_at, stray_numbers};
 
 use crate::reading::Reading;
 use rectangular::Code6250;
-use slices::{first_above, turned_place, union};
+use slices::{turned_place, union};
 
 // Whether one of the numbers of the group that begins at an index, or the map, has a stray bit.
 fn is_stray(words: &[u16], at: usize, map: u16) -> bool
@@ -15,7 +15,7 @@ fn is_stray(words: &[u16], at: usize, map: u16) -> bool
     ensures { result ≡ (stray_numbers (numbers_at words.now at) || ltb most_map map) }
 {
     let numbers = &words[at..at + Code6250::NUMBERS];
-    first_above(numbers, Code6250::MOST_NUMBER).is_some() || map > Code6250::MOST_MAP
+    union(numbers) > Code6250::MOST_NUMBER || map > Code6250::MOST_MAP
 }
 
 // The first group with a stray bit. Where no bit is stray, as a rule, that is seen from all words at once.
