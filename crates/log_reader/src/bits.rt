@@ -13,7 +13,8 @@ fn lowest_ones(byte: u8, bits: usize) -> usize
     (byte % (1 << bits)).count_ones() as usize
 }
 
-// How many bits stand in some bytes. As a loop, for a sum over `map` takes a quarter longer where its jump back ends a line of the code cache.
+// How many bits stand in some bytes. A loop over them: a log of 586 groups with no mark was read up to a quarter slower by `map` and `sum`,
+// whose loop as compiled is slow at half of the places where it can lie.
 fn ones_of(bytes: &[u8]) -> usize
     requires { length bytes.now ≤ most_groups }
     ensures { result ≡ sum_by ones bytes.now }

@@ -9,7 +9,8 @@ use crate::reading::Reading;
 use rectangular::Code6250;
 use slices::{turned_place, union};
 
-// Whether one of the numbers of the group that begins at an index, or the map, has a stray bit.
+// Whether one of the numbers of the group that begins at an index, or the map, has a stray bit. All nine are looked at at once, which takes
+// less than half of a search for the first.
 fn is_stray(words: &[u16], at: usize, map: u16) -> bool
     requires { at + numbers_per_group ≤ length words.now }
     ensures { result ≡ (stray_numbers (numbers_at words.now at) || ltb most_map map) }
