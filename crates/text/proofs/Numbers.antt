@@ -1,61 +1,58 @@
--- A number of the text: its bytes up to the first that separates, entered one after another; and where it ends.
+-- A number of the text: one byte more, and where it ends.
 -- Assumes nothing.
-use Rattle.std.proofs.Common.{◌≡◌, refl, sym, ap, ◌∙◌, ℕ, ◌+◌, ◌<◌, ◌≤◌, suc, ◌⊎◌, Bool, not, true, false, cond, List, [], ◌∷◌, length, get_or, take, drop, Ok, inl, inr, Result, Option, add-zero, arith, length-drop}
-use Rattle.std.specs.List.{fold, position, position_or_len}
-use Rattle.std.proofs.lemmas.Bool.{cases_lt}
-use Rattle.std.proofs.lemmas.List.Sums.{prefix_len-le-length, prefix_len-drop_yes}
-use borrow.Author.Tests.{lt-ltb, le-ltb}
-use Rattle.std.specs.Option.{unwrap_or}
-use Rattle.text.specs.declared.number.NumberFault.{NumberFault}
+use Rattle.std.proofs.Common.{◌≡◌, refl, sym, ap, ℕ, ◌+◌, ◌<◌, ◌≤◌, Bool, true, false, cond, List, [], ◌∷◌, length, get_or, drop, Ok, Result, eqb, add-one, arith, drop-cons, length-drop}
+use lib.Seq.{drop-length}
+use Rattle.std.proofs.lemmas.Bool.Decides.{nat_tests}
 use Rattle.text.specs.declared.number.Number.{Number}
+use Rattle.text.specs.declared.number.NumberFault.{NumberFault}
 use Rattle.text.specs.Number.{separating, entered_byte, scanned}
 
-scanned_is : (value : Result ℕ NumberFault) (at : ℕ) (l : List ℕ) → scanned value at l ≡ record { value = fold entered_byte value (take (position_or_len separating l) l); end = at + position_or_len separating l }
+-- where a byte separates, the number ends; elsewhere the byte is entered
+pub scanned_stop : (text : List ℕ) (v : Result ℕ NumberFault) (i : ℕ) → i < length text → separating (get_or text i 0) ≡ true → scanned v i (drop i text) ≡ record { value = v; end = i }
 unfolding scanned
-scanned_is value at [] = ap (λ (end : ℕ). record { value = value; end = end }) (sym (add-zero at))
-scanned_is value at (byte ∷ bytes) = by (separating byte) (scanned_is (entered_byte value byte) (at + 1) bytes)
+scanned_stop text v i h s = rw (drop-cons text i 0 h) (rw s refl)
+
+pub scanned_step : (text : List ℕ) (v : Result ℕ NumberFault) (i : ℕ) → i < length text → separating (get_or text i 0) ≡ false → scanned v i (drop i text) ≡ scanned (entered_byte v (get_or text i 0)) (i + 1) (drop (i + 1) text)
+unfolding scanned
+scanned_step text v i h s =
+    rw (drop-cons text i 0 h) (rw s (ap (λ (n : ℕ). scanned (entered_byte v (get_or text i 0)) (i + 1) (drop n text)) (sym (add-one i))))
+
+pub scanned_none : (text : List ℕ) (v : Result ℕ NumberFault) (i : ℕ) → i ≡ length text → scanned v i (drop i text) ≡ record { value = v; end = i }
+unfolding scanned
+scanned_none text v i h = rw (h, drop-length) refl
+
+-- what separates is no digit
+pub entered_begins : (value next byte : ℕ) → entered_byte (Ok value) byte ≡ Ok next → separating byte ≡ false
+unfolding entered_byte
+entered_begins value next byte e = grind (arith, nat_tests)
+
+-- nor is what begins a number a newline
+pub other_begins : (byte : ℕ) → separating byte ≡ false → eqb byte 10 ≡ false
+other_begins byte h = grind (arith, nat_tests)
+
+-- a number ends within its text
+pub scanned_from : (v : Result ℕ NumberFault) (at : ℕ) (l : List ℕ) → at ≤ (scanned v at l).end
+unfolding scanned
+scanned_from v at [] = omega arith
+scanned_from v at (b ∷ bs) = from (separating b) v at (scanned (entered_byte v b) (at + 1) bs) (scanned_from (entered_byte v b) (at + 1) bs)
   where
-    by : (b : Bool)
-        → scanned (entered_byte value byte) (at + 1) bytes ≡ record { value = fold entered_byte (entered_byte value byte) (take (position_or_len separating bytes) bytes); end = at + 1 + position_or_len separating bytes }
-        → cond b (record { value = value; end = at }) (scanned (entered_byte value byte) (at + 1) bytes)
-        ≡ record { value = fold entered_byte value (take (cond (not b) (1 + position_or_len separating bytes) 0) (byte ∷ bytes)); end = at + cond (not b) (1 + position_or_len separating bytes) 0 }
-    by true e = ap (λ (end : ℕ). record { value = value; end = end }) (sym (add-zero at))
-    by false e =
-        let k = position_or_len separating bytes in
-        let one_more : 1 + k ≡ suc k = omega arith in
-        let behind : at + 1 + k ≡ at + (1 + k) = omega arith in
-        rw (e, behind, one_more) refl
+    from : (s : Bool) (v : Result ℕ NumberFault) (at : ℕ) (n : Number) → at + 1 ≤ n.end → at ≤ (cond s (record { value = v; end = at }) n).end
+    from true v at n h = omega arith
+    from false v at n h = omega arith
 
--- a number ends at the first byte that separates, or where the text ends
-size_is : (l : List ℕ) → unwrap_or (position separating l) (length l) ≡ position_or_len separating l
-size_is l = by (cases_lt (position_or_len separating l) (length l))
+pub scanned_within : (v : Result ℕ NumberFault) (at : ℕ) (l : List ℕ) → (scanned v at l).end ≤ at + length l
+unfolding scanned
+scanned_within v at [] = omega arith
+scanned_within v at (b ∷ bs) = within (separating b) (scanned_within (entered_byte v b) (at + 1) bs)
   where
-    by : (position_or_len separating l < length l) ⊎ (length l ≤ position_or_len separating l) → unwrap_or (position separating l) (length l) ≡ position_or_len separating l
-    by (inl h) = rw (lt-ltb _ _ h) refl
-    by (inr h) = let most = prefix_len-le-length (λ b. not (separating b)) l in rw (le-ltb _ _ h) (omega arith)
-
-module _ (text rest : List ℕ) (at size : ℕ) (is : rest ≡ drop at text) (place : Option ℕ) (placed : place ≡ position separating rest) (sized : size ≡ unwrap_or place (length rest)) where
-  found : size ≡ position_or_len separating rest
-  found = sized ∙ ap (λ (o : Option ℕ). unwrap_or o (length rest)) placed ∙ size_is rest
-
-  -- the number ends within what is left of the text
-  pub number_within : size ≤ length rest
-  number_within = omega (arith, found, prefix_len-le-length (λ b. not (separating b)) rest)
-
-  -- the number that begins at a place, from its size and its value
-  pub number_is : (value : Result ℕ NumberFault) → value ≡ fold entered_byte (Ok 0) (take size rest)
-      → record { value = value; end = at + size } ≡ scanned (Ok 0) at (drop at text)
-  number_is value hv =
-      rw (hv, found, ← is) (sym (scanned_is (Ok 0) at rest))
+    within : (s : Bool) → (scanned (entered_byte v b) (at + 1) bs).end ≤ at + 1 + length bs → (cond s (record { value = v; end = at }) (scanned (entered_byte v b) (at + 1) bs)).end ≤ at + length (b ∷ bs)
+    within true h = omega arith
+    within false h = omega arith
 
 -- a number that begins at a byte that does not separate passes that byte, and ends within the text
 pub number_ahead : (text : List ℕ) (i : ℕ) → i < length text → separating (get_or text i 0) ≡ false → i + 1 ≤ (scanned (Ok 0) i (drop i text)).end
 number_ahead text i h s =
-    let ends = ap (λ (n : Number). n.end) (scanned_is (Ok 0) i (drop i text)) in
-    let other : not (separating (get_or text i 0)) ≡ true = ap not s in
-    omega (arith, ends, prefix_len-drop_yes (λ b. not (separating b)) text i 0 h other)
+    rw (scanned_step text (Ok 0) i h s) (scanned_from (entered_byte (Ok 0) (get_or text i 0)) (i + 1) (drop (i + 1) text))
 
 pub number_in : (text : List ℕ) (i : ℕ) → i < length text → (scanned (Ok 0) i (drop i text)).end ≤ length text
-number_in text i h =
-    let ends = ap (λ (n : Number). n.end) (scanned_is (Ok 0) i (drop i text)) in
-    omega (arith, ends, prefix_len-le-length (λ b. not (separating b)) (drop i text), length-drop i text)
+number_in text i h = omega (arith, scanned_within (Ok 0) i (drop i text), length-drop i text)

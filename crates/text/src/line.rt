@@ -39,10 +39,10 @@ pub fn line_at(text: &[u8], at: usize, row: &mut [u16]) -> Result<Row, LineFault
     let mut end = at;
     // By hand, since a turn passes a blank or a whole number, and the place is told too.
     while end < text.len() {
-        if text[end] == b'\n' {
-            break;
-        }
         if separates(text[end]) {
+            if text[end] == b'\n' {
+                break;
+            }
             end += 1;
             continue;
         }

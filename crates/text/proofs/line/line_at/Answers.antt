@@ -3,7 +3,7 @@
 use Rattle.std.proofs.Common.{refl, sym, ap, ◌∙◌, length, arith, rules}
 use borrow.Author.Tests.{ne_eqb}
 use Rattle.text.proofs.Lines.{text_ends, line_ends, blank_passed, fault_read, number_stored}
-use Rattle.text.proofs.Numbers.{number_ahead, number_in}
+use Rattle.text.proofs.Numbers.{other_begins, number_ahead, number_in}
 use Rattle.text.proofs.line.line_at.Goals as goal
 
 pub loop-end-init : goal.loop-end-init
@@ -31,14 +31,14 @@ pub returns-in-Err-clause-line : goal.returns-in-Err-clause-line
 returns-in-Err-clause-line c =
     let at = c.loop-end in
     ap (λ p. p.0)
-    (fault_read c.args.text.now _ at.count at.end at.row c.loop-end-test.true (ne_eqb _ _ c.if-text-end-eq10.false)
+    (fault_read c.args.text.now _ at.count at.end at.row c.loop-end-test.true (other_begins _ (sym c.separates.ensures ∙ c.if-separates.false))
     (sym c.separates.ensures ∙ c.if-separates.false) _ c.number_at-number.ensures c.in-Err.cause c.in-Err.is at.invariant.left)
 
 pub returns-in-Err-clause-row : goal.returns-in-Err-clause-row
 returns-in-Err-clause-row c =
     let at = c.loop-end in
     ap (λ p. p.1)
-    (fault_read c.args.text.now _ at.count at.end at.row c.loop-end-test.true (ne_eqb _ _ c.if-text-end-eq10.false)
+    (fault_read c.args.text.now _ at.count at.end at.row c.loop-end-test.true (other_begins _ (sym c.separates.ensures ∙ c.if-separates.false))
     (sym c.separates.ensures ∙ c.if-separates.false) _ c.number_at-number.ensures c.in-Err.cause c.in-Err.is at.invariant.left)
 
 pub loop-end-smaller : goal.loop-end-smaller
@@ -59,7 +59,7 @@ loop-end-preserved c =
     let ahead = rw (← n.ensures) at (number_ahead text at.end c.loop-end-test.true begins) in
     let within = rw (← n.ensures) at (number_in text at.end c.loop-end-test.true) in
     let stored = number_stored text _ at.count at.end at.row c.loop-end-test.true
-    (ne_eqb _ _ c.if-text-end-eq10.false) begins _ n.ensures c.in-Ok.value c.in-Ok.is at.invariant.left in
+    (other_begins _ (sym c.separates.ensures ∙ c.if-separates.false)) begins _ n.ensures c.in-Ok.value c.in-Ok.is at.invariant.left in
     record {
       onward = omega (arith, at.invariant.onward, ahead);
       within = within;
