@@ -32,16 +32,21 @@ fn done(page: &mut Page, request: Request, input: &[u8]) -> Text {
     }
 }
 
-// What is made of standard input, which a wrong request leaves alone. There is space for one byte more than the longest
-// text, and so for more than any record's data: what is too long is seen, and refused.
-fn answer(rt: &HostRuntime, page: &mut Page, request: Option<Request>) -> Text {
-    let Some(request) = request else {
-        return print::usage(page);
-    };
+// What is made of standard input. There is space for one byte more than the longest text, and so for more than any record's data: what
+// is too long is seen, and refused. A function of its own, so that a wrong request does not clear the space.
+fn read(rt: &HostRuntime, page: &mut Page, request: Request) -> Text {
     let mut input = io::large_buffer();
     match streams::read(&mut rt.stdin(), &mut input) {
         Ok(count) => done(page, request, &input[..count]),
         Err(failure) => streams::unread(page, failure),
+    }
+}
+
+// What is made of a request. A wrong one leaves standard input alone.
+fn answer(rt: &HostRuntime, page: &mut Page, request: Option<Request>) -> Text {
+    match request {
+        Some(request) => read(rt, page, request),
+        None => print::usage(page),
     }
 }
 
