@@ -1,22 +1,19 @@
 -- A card as it is searched: nine numbers below 9, kept as bits, make all nine bits exactly if the card is good; and a number is wrong if it is
--- above 8 or stands on two tracks.
+-- above 8 or stands at another place.
 -- Assumes nothing.
-use mathlib.Core.Bool.{Bool, true, false, ◌||◌, cond}
-use mathlib.Core.List.{List, ◌∷◌}
-use mathlib.Core.Path.{◌≡◌, refl, sym, ap, ◌∙◌}
+use mathlib.Core.Bool.{Bool, true, false, ◌||◌, cond, or-true}
+use mathlib.Core.List.{List}
+use mathlib.Core.Path.{◌≡◌, refl, sym, ap, ap₂, ◌∙◌}
 use Prim.Native.Nat.{ℕ, ◌+◌, ◌*◌, ◌%◌, ◌^◌, ◌<◌, ◌≤◌}
-use native.Mathlib.Decide.{ℕ_discrete}
+use native.Mathlib.Decide.{dec_lt, ℕ_discrete}
 use native.Mathlib.Omega.{arith}
 use borrow.Author.Tests.{eq-eqb, ne_eqb, le-leb, lt-leb}
 use lib.Bits.{bit_or, or_zero_l, or_zero_r, or_self, or_lt}
 use lib.Dec.{eqb, leb, ltb, ltb→lt}
 use lib.ListN.{length, get_or}
 use Rattle.std.proofs.Common.{None}
-use Rattle.indexed.specs.List.{index_in, total, occurrences}
-use Rattle.indexed.proofs.Total.{total_first}
-use Rattle.indexed.proofs.Onto.{every_value, one_to_one}
-use Rattle.std.specs.List.{count_by}
-use Rattle.std.proofs.lemmas.List.Recursion.{is_count_by}
+use Rattle.indexed.specs.List.{index_in}
+use Rattle.indexed.proofs.Onto.{occurs_twice, occurs_once, every_value, one_to_one}
 use Rattle.indexed.proofs.Test.{tested, equal, equal₂}
 use Rattle.register.specs.Bit.{bit}
 use Rattle.register.proofs.Bit.{bit_lt}
@@ -137,30 +134,25 @@ module _ (card : List ℕ) where
           by (yes e) = eq-eqb seen 511 e ∙ sym (good_tested (all_seen_good e))
           by (no ne) = ne_eqb seen 511 ne ∙ sym (bad_tested (λ good. ne (good_all_seen good)))
 
--- ---- a wrong number: one above 8, or one that stands on two tracks
+  -- ---- a wrong number: one above 8, or one that stands at another place too
 
--- the tracks of a number, counted along the card
-tracks_more : (a x : ℕ) (xs : List ℕ) → tracks_with (x ∷ xs) a ≡ cond (eqb x a) (1 + tracks_with xs a) (tracks_with xs a)
-unfolding occurrences
-tracks_more a x xs =
-    total_first (length xs) (λ k. cond (eqb (get_or (x ∷ xs) k 0) a) 1 0)
-    ∙ one_more (eqb x a) (total (length xs) (λ k. cond (eqb (get_or xs k 0) a) 1 0))
-  where
-    one_more : (b : Bool) (n : ℕ) → cond b 1 0 + n ≡ cond b (1 + n) n
-    one_more true n = refl
-    one_more false n = omega arith
+  module _ (place : ℕ) (h : place < length card) where
+    pub above_wrong : 9 ≤ get_or card place 0 → true ≡ wrong_number card (get_or card place 0)
+    unfolding wrong_number
+    above_wrong large = sym (ap (λ (b : Bool). b || leb 2 (tracks_with card (get_or card place 0))) (le-leb 9 _ large))
 
-tracks_counted : (card : List ℕ) (a : ℕ) → tracks_with card a ≡ count_by (λ n. eqb n a) card
-unfolding occurrences total
-tracks_counted card a = is_count_by (λ l. tracks_with l a) (λ n. eqb n a) refl (tracks_more a) card
+    pub twice_wrong : (k : ℕ) → k < length card → get_or card k 0 ≡ get_or card place 0 → (k ≡ place → ⊥) → true ≡ wrong_number card (get_or card place 0)
+    unfolding wrong_number
+    twice_wrong k within e other =
+        sym (ap (λ (b : Bool). leb 9 (get_or card place 0) || b) (le-leb 2 _ (twice (dec_lt k place))) ∙ or-true (leb 9 (get_or card place 0)))
+      where
+        twice : Dec (k < place) → 2 ≤ tracks_with card (get_or card place 0)
+        twice (yes less) = occurs_twice (length card) (λ k. get_or card k 0) (get_or card place 0) k place less h e refl
+        twice (no b) = occurs_twice (length card) (λ k. get_or card k 0) (get_or card place 0) place k (omega arith) within refl e
 
-module _ (card : List ℕ) (number : ℕ) where
-  pub above_wrong : 9 ≤ number → true ≡ wrong_number card number
-  unfolding wrong_number
-  above_wrong large = sym (ap (λ (b : Bool). b || leb 2 (tracks_with card number)) (le-leb 9 _ large))
-
-  pub low_wrong : number < 9 → (count : ℕ) → count ≡ count_by (λ n. eqb n number) card → leb 2 count ≡ wrong_number card number
-  unfolding wrong_number
-  low_wrong small count e =
-      ap (leb 2) (e ∙ sym (tracks_counted card number))
-      ∙ sym (ap (λ (b : Bool). b || leb 2 (tracks_with card number)) (lt-leb 9 _ small))
+    pub alone_right : get_or card place 0 < 9 → ((k : ℕ) → k < length card → get_or card k 0 ≡ get_or card place 0 → k ≡ place)
+        → false ≡ wrong_number card (get_or card place 0)
+    unfolding wrong_number
+    alone_right small alone =
+        sym (ap₂ ◌||◌ (lt-leb 9 _ small)
+        (lt-leb 2 _ (occurs_once (length card) (λ k. get_or card k 0) (get_or card place 0) (λ j k hj hk ej ek. alone j hj ej ∙ sym (alone k hk ek)))))
