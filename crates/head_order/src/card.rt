@@ -14,7 +14,9 @@ use arrangement::card::GoodCard;
 use rectangular::Code6250;
 use track_order::Toward;
 
-// Moves nine words.
+// Moves nine words. This and `map` are compiled into their callers, which know the order and take the answer apart: as routines
+// of their own, with the answer stored for the caller, they took a third more.
+#[inline(always)]
 pub fn words(toward: Toward, card: &[u8], source: &[u16], target: &mut [u16]) -> Result<(), Refusal>
     ensures answer { told_stored result [] ≡ card_words_answer card.now source.now (length target.old) }
     ensures output { target.new ≡ output_after (told_stored result []) (moved_words toward card.now source.now) target.old }
@@ -25,6 +27,7 @@ pub fn words(toward: Toward, card: &[u8], source: &[u16], target: &mut [u16]) ->
 }
 
 // Moves a pointer map: algebraic track a is its bit a in code order, and physical track p its bit p - 1 in head order.
+#[inline(always)]
 pub fn map(toward: Toward, card: &[u8], map: u16) -> Result<u16, Refusal>
     ensures answer { told_map result ≡ card_map_answer card.now (moved_map toward card.now) map }
     ensures terms { Terms (Call.move_map toward card.now map) (told_map result) [] [] }
@@ -39,8 +42,14 @@ pub fn inverse(card: &[u8], numbers: &mut Card) -> Result<(), Refusal>
     ensures output { numbers.new ≡ figures_after (inverse_answer card.now) numbers.old }
     ensures terms { Terms (Call.invert_card card.now) (told_stored result numbers.new) [] [] }
 {
-    *numbers = checked(card)?.inverse().places();
-    Ok(())
+    match checked(card) {
+        Ok(good) => {
+            *numbers = good.inverse().places();
+            Ok(())
+        }
+        // What is refused stores nothing.
+        Err(refusal) => Err(refusal),
+    }
 }
 
 // Refusals 12, 1, 2 and 11, in this order, or the good card: the stray bits are asked with the moving.
