@@ -42,14 +42,8 @@ pub fn inverse(card: &[u8], numbers: &mut Card) -> Result<(), Refusal>
     ensures output { numbers.new ≡ figures_after (inverse_answer card.now) numbers.old }
     ensures terms { Terms (Call.invert_card card.now) (told_stored result numbers.new) [] [] }
 {
-    match checked(card) {
-        Ok(good) => {
-            *numbers = good.inverse().places();
-            Ok(())
-        }
-        // What is refused stores nothing.
-        Err(refusal) => Err(refusal),
-    }
+    *numbers = checked(card)?.inverse().places();
+    Ok(())
 }
 
 // Refusals 12, 1, 2 and 11, in this order, or the good card: the stray bits are asked with the moving.

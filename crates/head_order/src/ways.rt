@@ -14,14 +14,9 @@ pub fn words(way: &Way, source: &[u16], target: &mut [u16]) -> Result<(), Refusa
     ensures answer { told_stored result [] ≡ words_answer source.now (length target.old) }
     ensures output { target.new ≡ output_after (told_stored result []) (arranged way.now source.now) target.old }
 {
-    match checked(source, target.len()) {
-        Ok(words) => {
-            way.arrange(words, target);
-            Ok(())
-        }
-        // What is refused writes nothing.
-        Err(refusal) => Err(refusal),
-    }
+    let words = checked(source, target.len())?;
+    way.arrange(words, target);
+    Ok(())
 }
 
 // Moves a pointer map.
