@@ -10,7 +10,7 @@ returns-then-number-ge-TRACKS c = above_wrong _ c.args.place c.requires c.if-num
 
 pub returns-then-k-place : goal.returns-then-k-place
 returns-then-k-place c =
-    twice_wrong _ c.args.place c.requires (c.loop-k.k - 1) (omega arith) c.if-card-k.true c.if-k-place.true
+    twice_wrong _ c.args.place c.requires (c.loop-k.k - 1) (omega arith) c.if-card-k.true (λ same. omega arith)
 
 pub returns : goal.returns
 returns c = alone_right _ c.args.place c.requires c.if-number-ge-TRACKS.false (λ j. c.loop-k.invariant j (omega arith))
