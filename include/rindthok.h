@@ -31,7 +31,7 @@
  *
  * Stack, as measured on x86-64 from the call to the lowest byte touched: a read at 6250 takes 5,649 bytes, its log
  * 5,617, a log read back 88, a read at 800 at most 216, a copy of an 800 record at most 2,392, a write 120 at 6250 and
- * 64 at 800, a call between the orders 8, one by a card 168. Where the C library is bound lazily, the
+ * 64 at 800, a call between the orders 8, one by a card 144. Where the C library is bound lazily, the
  * first call of its memcpy or memset runs the linker on the same stack, which takes some thousands of bytes more; link
  * with -z now, or statically. The calls allocate nothing and keep no state, so any number of threads may make them.
  *
